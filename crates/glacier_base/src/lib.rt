@@ -1,0 +1,36 @@
+//! What all crates share: names, moments and digests, small owned lists, and the traits of the outside.
+#![tactic(auto)]
+
+mod account;
+mod description;
+mod digest;
+mod files;
+mod held;
+mod host_files;
+mod host_sink;
+mod list;
+mod mem_files;
+mod mem_sink;
+mod moment;
+mod outside;
+mod planned;
+mod reading;
+mod sink;
+mod text;
+mod vault_name;
+
+pub use account::Account;
+pub use description::Description;
+pub use digest::Digest;
+pub use files::{Files, MOST_READ};
+pub use held::Held;
+pub use host_files::HostFiles;
+pub use host_sink::HostSink;
+pub use list::List;
+pub use mem_files::MemFiles;
+pub use mem_sink::MemSink;
+pub use moment::{LAST_MOMENT, Moment};
+pub use outside::{Failed, Memory};
+pub use sink::Sink;
+pub use text::Text;
+pub use vault_name::VaultName;
