@@ -1,1 +1,3 @@
+pub mod LeavesLemmas
+pub mod RootsLemmas
 pub mod TreeLemmas

@@ -1,8 +1,17 @@
 //! The tree hash of the Developer Guide: SHA-256 over leaves of 1 MiB, joined pairwise.
 #![tactic(auto)]
 
+mod forked;
+mod hasher;
+mod linear;
+mod piece;
+mod roots;
 #[cfg(test)]
 mod tests;
 mod tree;
 
+pub use forked::{Gate, Open, tree_hash_forked};
+pub use hasher::TreeHasher;
+pub use linear::Linear;
+pub use piece::{hash_leaves, hash_piece};
 pub use tree::{MIB, tree_hash, tree_hash_cases};

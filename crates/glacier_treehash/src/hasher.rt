@@ -1,0 +1,121 @@
+// The tree hash of bytes that come in pieces.
+ghost use Rattle.std.specs.Prelude.{◌≡◌, ◌+◌, ◌*◌, ◌%◌, ◌<◌, ◌≤◌, ◌^◌, ◌++◌, [], ℕ, List, length};
+ghost use Rattle.sha2.specs.Sha256.{sha256};
+ghost use Rattle.glacier_treehash.specs.Leaves.{leaves_from};
+ghost use Rattle.glacier_treehash.specs.Roots.{AreRoots};
+ghost use Rattle.glacier_treehash.specs.Tree.{mib, tree_hash_of};
+
+use crate::linear::Linear;
+use crate::roots::{add_root, join_roots};
+use crate::tree::MIB;
+use glacier_base::Digest;
+use std::mem;
+
+// The sizes of full trees within 2^63 bytes: 1 to 2^43 leaves.
+const SIZES: usize = 44;
+
+/// A running tree hash. It keeps at most one root for each size of a full tree, and the last leaf as far as it came.
+#[derive(Drop)]
+pub struct TreeHasher {
+    roots: [Digest; SIZES],
+    leaves: u64,
+    partial: Linear,
+    filled: usize,
+    ghost not_full: { filled < mib },
+}
+
+// No roots: what stands at a size counts only where there is a tree of it.
+fn no_roots() -> [Digest; SIZES]
+    ensures { AreRoots mib 0 result [] }
+{
+    [Digest([0; 32]); SIZES]
+}
+
+impl TreeHasher {
+    ghost use Rattle.glacier_treehash.specs.Hasher.{HasTaken, fed_length};
+
+    /// One that was fed nothing.
+    pub fn new() -> Self
+        ensures length { fed_length result ≡ 0 }
+        ensures taken { HasTaken result [] }
+    {
+        TreeHasher {
+            roots: no_roots(),
+            leaves: 0,
+            partial: Linear::new(),
+            filled: 0,
+        }
+    }
+
+    /// Takes in these bytes behind those that it was fed before.
+    pub fn feed(&mut self, bytes: &[u8])
+        requires { fed_length self.old + length bytes.now ≤ 2 ^ 63 }
+        ensures length { fed_length self.new ≡ fed_length self.old + length bytes.now }
+        ensures taken { (message : List ℕ) → HasTaken self.old message → HasTaken self.new (message ++ bytes.now) }
+    {
+        let mut start = 0;
+        while start < bytes.len() {
+            let end = bytes.len().min(start + (MIB - self.filled));
+            self.feed_part(&bytes[start..end]);
+            start = end;
+        }
+    }
+
+    // Takes in bytes that fit the last leaf, and adds it where it is whole.
+    fn feed_part(&mut self, bytes: &[u8])
+        requires fits { self.old.filled + length bytes.now ≤ MIB }
+        requires room { fed_length self.old + length bytes.now ≤ 2 ^ 63 }
+        ensures length { fed_length self.new ≡ fed_length self.old + length bytes.now }
+        ensures taken { (message : List ℕ) → HasTaken self.old message → HasTaken self.new (message ++ bytes.now) }
+    {
+        self.partial.feed(bytes);
+        let filled = self.filled + bytes.len();
+        if filled < MIB {
+            self.filled = filled;
+            return;
+        }
+        let whole = mem::replace(&mut self.partial, Linear::new());
+        add_root(&mut self.roots, self.leaves, whole.finish());
+        self.leaves += 1;
+        self.filled = 0;
+    }
+
+    /// Takes in a whole leaf by its digest, where no leaf is begun.
+    pub fn add_leaf(&mut self, leaf: &Digest)
+        requires begins { fed_length self.old % MIB ≡ 0 }
+        requires room { fed_length self.old + MIB ≤ 2 ^ 63 }
+        ensures length { fed_length self.new ≡ fed_length self.old + MIB }
+        ensures taken { (message bytes : List ℕ) → HasTaken self.old message → length bytes ≡ MIB →
+            leaf.now ≡ sha256 bytes → HasTaken self.new (message ++ bytes) }
+    {
+        add_root(&mut self.roots, self.leaves, *leaf);
+        self.leaves += 1;
+    }
+
+    /// Takes in whole leaves by their digests, where no leaf is begun.
+    pub fn feed_leaves(&mut self, leaves: &[Digest])
+        requires begins { fed_length self.old % MIB ≡ 0 }
+        requires room { fed_length self.old + length leaves.now * MIB ≤ 2 ^ 63 }
+        ensures length { fed_length self.new ≡ fed_length self.old + length leaves.now * MIB }
+        ensures taken { (message bytes : List ℕ) → HasTaken self.old message → length bytes ≡ length leaves.now * MIB →
+            leaves.now ≡ leaves_from (length leaves.now) bytes → HasTaken self.new (message ++ bytes) }
+    {
+        for leaf in leaves {
+            self.add_leaf(leaf);
+        }
+    }
+
+    /// The tree hash of all that it was fed.
+    pub fn finish(self) -> Digest
+        ensures { (message : List ℕ) → HasTaken self message → result ≡ tree_hash_of message }
+    {
+        let TreeHasher {
+            roots,
+            leaves,
+            partial,
+            filled,
+        } = self;
+        let last = partial.finish();
+        join_roots(&roots, leaves, (filled > 0).then_some(last)).unwrap_or(last)
+    }
+}
