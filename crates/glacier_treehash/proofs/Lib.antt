@@ -1,3 +1,4 @@
+pub mod LeafRoots
 pub mod LeavesLemmas
 pub mod RootsLemmas
 pub mod TreeLemmas

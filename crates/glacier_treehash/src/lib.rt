@@ -5,6 +5,7 @@ mod forked;
 mod hasher;
 mod linear;
 mod piece;
+mod root;
 mod roots;
 #[cfg(test)]
 mod tests;
@@ -14,4 +15,5 @@ pub use forked::{Gate, Open, tree_hash_forked};
 pub use hasher::TreeHasher;
 pub use linear::Linear;
 pub use piece::{hash_leaves, hash_piece};
+pub use root::root_of;
 pub use tree::{MIB, tree_hash, tree_hash_cases};
