@@ -4,6 +4,8 @@
 mod ending;
 mod hash;
 mod run;
+#[cfg(test)]
+mod tests;
 
 use ending::Ending;
 use glacier_base::{HostFiles, HostSink};
