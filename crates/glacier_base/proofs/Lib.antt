@@ -1,2 +1,11 @@
+pub mod Bounded
+pub mod CivilExists
+pub mod CivilFound
+pub mod CivilNanos
+pub mod DigitLemmas
+pub mod FirstYear
+pub mod HttpFound
+pub mod OneShown
 pub mod Padded
 pub mod Pieces
+pub mod Rows

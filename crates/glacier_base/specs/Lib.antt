@@ -1,4 +1,10 @@
+pub mod Calendar
+pub mod Civil
+pub mod Dates
+pub mod Digests
+pub mod Digits
 pub mod Held
+pub mod Ids
 pub mod MemFiles
 pub mod MemSink
 pub mod Names

@@ -1,8 +1,8 @@
 // The twelve digits of an account.
-ghost use Rattle.std.specs.Prelude.{◌≡◌};
-ghost use Rattle.std.specs.List.{list_all};
-ghost use Rattle.glacier_base.specs.Names.{is_digit, is_account, where_rule};
+ghost use Rattle.std.specs.Prelude.{◌≡◌, IsTrue};
+ghost use Rattle.glacier_base.specs.Names.{is_account, where_rule};
 
+use crate::digits::are_digits;
 use std::marker::Model;
 
 /// The twelve digits of an account.
@@ -23,12 +23,6 @@ impl Model for Account {
     ghost inverse = { λ digits. record { 0 = digits } };
 }
 
-fn are_digits(text: &[u8]) -> bool
-    ensures { result ≡ list_all is_digit text.now }
-{
-    text.iter().all(|byte| *byte >= 48 && *byte <= 57)
-}
-
 impl Account {
     /// The account that the bytes are, or None where they break the rule.
     pub fn parse(text: &[u8]) -> Option<Account>
@@ -47,7 +41,8 @@ impl Account {
 
     /// The digits.
     pub fn bytes(&self) -> &[u8]
-        ensures { result.now ≡ self.now }
+        ensures bytes { result.now ≡ self.now }
+        ensures rule { IsTrue (is_account self.now) }
     {
         &self.0
     }

@@ -2,12 +2,16 @@
 #![tactic(auto)]
 
 mod account;
+mod civil;
+mod dates;
 mod description;
 mod digest;
+mod digits;
 mod files;
 mod held;
 mod host_files;
 mod host_sink;
+mod id;
 mod list;
 mod mem_files;
 mod mem_sink;
@@ -15,22 +19,26 @@ mod moment;
 mod outside;
 mod planned;
 mod reading;
+mod region;
 mod sink;
 mod text;
 mod vault_name;
 
 pub use account::Account;
+pub use dates::{basic_date, basic_text, http_date_text, iso_text};
 pub use description::Description;
 pub use digest::Digest;
 pub use files::{Files, MOST_READ};
 pub use held::Held;
 pub use host_files::HostFiles;
 pub use host_sink::HostSink;
+pub use id::{Id, IdKind};
 pub use list::List;
 pub use mem_files::MemFiles;
 pub use mem_sink::MemSink;
 pub use moment::{LAST_MOMENT, Moment};
 pub use outside::{Failed, Memory};
+pub use region::Region;
 pub use sink::Sink;
 pub use text::Text;
 pub use vault_name::VaultName;
