@@ -5,6 +5,7 @@ pub mod CivilNanos
 pub mod DigitLemmas
 pub mod FirstYear
 pub mod HttpFound
+pub mod IdLemmas
 pub mod OneShown
 pub mod Padded
 pub mod Pieces

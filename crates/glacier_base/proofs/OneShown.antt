@@ -1,10 +1,14 @@
 -- A basic text shows one moment.
-use Rattle.std.proofs.Common.{◌≡◌, ◌∙◌, ℕ, ◌+◌, ◌*◌, ◌/◌, ◌%◌, ◌<◌, ◌≤◌, List, get_or, arith, sym, ap, pos, ◌≤ℤ◌, true}
+use Rattle.std.proofs.Common.{◌≡◌, ◌∙◌, ℕ, ◌+◌, ◌*◌, ◌/◌, ◌%◌, ◌<◌, ◌≤◌, List, get_or, arith, sym, ap, subst, pos, ◌≤ℤ◌, true}
 use Rattle.jiff.specs.Types.{DateTime}
 use Rattle.jiff_core.proofs.SignedLemmas.{signed_arith}
 use Rattle.jiff_core.proofs.CalendarLemmas.{days_in_month_bounds}
 use Rattle.glacier_base.specs.Civil.{IsCivilOf, IsSmall}
-use Rattle.glacier_base.specs.Dates.{basic_shown}
+use Rattle.glacier_base.specs.Calendar.{civil_of}
+use Rattle.glacier_base.specs.Dates.{basic_shown, basic_of}
+use Rattle.glacier_base.specs.declared.moment.TheConstants.{LAST_MOMENT}
+use Rattle.glacier_base.proofs.CivilExists.{exists}
+use Rattle.glacier_base.proofs.CivilNanos.{IsCivilOf-same}
 use Rattle.glacier_base.specs.declared.civil.CivilTime.{CivilTime}
 use Rattle.glacier_base.proofs.CivilFound.{same_civil}
 
@@ -32,3 +36,14 @@ one_shown p q a b e =
     (omega (arith, at 9, at 10, a.hour, b.hour))
     (omega (arith, at 11, at 12, a.minute, b.minute))
     (omega (arith, at 13, at 14, a.second, b.second))
+
+-- the numbers that a basic text shows are those of its moment
+pub civil_of-shown : (s : ℕ) (p : CivilTime) → s ≤ LAST_MOMENT → IsSmall p → basic_of s ≡ basic_shown p → civil_of s ≡ p
+civil_of-shown s p le is_small e = one_shown (civil_of s) p (small s (civil_of s) (exists s le)) is_small e
+
+-- moments with the same basic text are the same
+pub basic_of-same : (s t : ℕ) → s ≤ LAST_MOMENT → t ≤ LAST_MOMENT → basic_of s ≡ basic_of t → s ≡ t
+basic_of-same s t in_s in_t e =
+    let b = exists t in_t in
+    let shown = civil_of-shown s (civil_of t) in_s (small t (civil_of t) b) e in
+    IsCivilOf-same s t (civil_of t) (subst (λ (p : CivilTime). IsCivilOf s p) shown (exists s in_s)) b

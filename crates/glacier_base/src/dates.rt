@@ -117,6 +117,7 @@ fn read_civil(text: &[u8; 16]) -> Option<CivilTime>
 // The moment whose basic text these 16 bytes are.
 fn moment_shown(text: &[u8; 16]) -> Option<Moment>
     ensures some { IfSome result (λ m. basic_of m ≡ text.now) }
+    ensures one { IfSome result (λ m. (s : ℕ) → s ≤ LAST_MOMENT → basic_of s ≡ text.now → s ≡ m) }
     ensures none { IfNone result ((s : ℕ) → s ≤ LAST_MOMENT → basic_of s ≡ text.now → ⊥) }
 {
     match read_civil(text) {
@@ -129,6 +130,7 @@ fn moment_shown(text: &[u8; 16]) -> Option<Moment>
 /// form, a day or a time that the calendar doesn't have, or a moment outside its range.
 pub fn basic_date(text: &[u8]) -> Option<Moment>
     ensures some { IfSome result (λ m. basic_of m ≡ text.now) }
+    ensures one { IfSome result (λ m. (s : ℕ) → s ≤ LAST_MOMENT → basic_of s ≡ text.now → s ≡ m) }
     ensures none { IfNone result ((s : ℕ) → s ≤ LAST_MOMENT → basic_of s ≡ text.now → ⊥) }
 {
     if text.len() != 16 {

@@ -16,6 +16,8 @@ mod list;
 mod mem_files;
 mod mem_sink;
 mod moment;
+#[cfg(test)]
+mod name_tests;
 mod outside;
 mod planned;
 mod reading;

@@ -9,8 +9,7 @@ use std::marker::Model;
 fn are_region_bytes(text: &[u8]) -> bool
     ensures { result ≡ list_all is_region_byte text.now }
 {
-    text.iter()
-        .all(|byte| byte.is_ascii_lowercase() || byte.is_ascii_digit() || *byte == b'-')
+    text.iter().all(|byte| byte.is_ascii_lowercase() || byte.is_ascii_digit() || *byte == b'-')
 }
 
 /// Whether the bytes are a region's name.
