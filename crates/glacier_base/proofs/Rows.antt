@@ -1,7 +1,7 @@
 -- The worked row: moment 1,337,905,493.
-use Rattle.std.proofs.Common.{◌≡◌, refl, codes, ℕ, List}
+use Rattle.std.proofs.Common.{◌≡◌, refl, codes}
 use Rattle.glacier_base.specs.Calendar.{civil_of, year_from, month_from}
-use Rattle.glacier_base.specs.Dates.{iso_shown, basic_shown, http_of}
+use Rattle.glacier_base.specs.Dates.{iso_shown, http_of}
 
 pub iso_row : iso_shown (civil_of 1_337_905_493) ≡ codes "2012-05-25T00:24:53.000Z"
 unfolding civil_of year_from month_from
