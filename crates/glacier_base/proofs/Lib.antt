@@ -3,10 +3,10 @@ pub mod CivilExists
 pub mod CivilFound
 pub mod CivilNanos
 pub mod DigitLemmas
+pub mod Examples
 pub mod FirstYear
 pub mod HttpFound
 pub mod IdLemmas
 pub mod OneShown
 pub mod Padded
 pub mod Pieces
-pub mod Rows
