@@ -1,4 +1,5 @@
 pub mod Held
+pub mod Maps
 pub mod MemFiles
 pub mod MemSink
 pub mod Names

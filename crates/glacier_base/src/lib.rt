@@ -2,6 +2,7 @@
 #![tactic(auto)]
 
 mod account;
+mod account_map;
 mod description;
 mod digest;
 mod files;
@@ -12,7 +13,10 @@ mod list;
 mod mem_files;
 mod mem_sink;
 mod moment;
+mod name_map;
+mod number_map;
 mod outside;
+mod part_map;
 mod planned;
 mod reading;
 mod sink;
@@ -20,6 +24,7 @@ mod text;
 mod vault_name;
 
 pub use account::Account;
+pub use account_map::AccountMap;
 pub use description::Description;
 pub use digest::Digest;
 pub use files::{Files, MOST_READ};
@@ -30,7 +35,10 @@ pub use list::List;
 pub use mem_files::MemFiles;
 pub use mem_sink::MemSink;
 pub use moment::{LAST_MOMENT, Moment};
+pub use name_map::NameMap;
+pub use number_map::NumberMap;
 pub use outside::{Failed, Memory};
+pub use part_map::PartMap;
 pub use sink::Sink;
 pub use text::Text;
 pub use vault_name::VaultName;
