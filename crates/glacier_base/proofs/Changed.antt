@@ -1,19 +1,21 @@
 -- Finite maps of which each value is changed, or some entries are kept.
-use Rattle.std.specs.Prelude.{◌≡◌, Bool, true, false, cond, ◌||◌, List, [], ◌∷◌, Option, Some, None, is_some, filter}
+use Rattle.std.specs.Prelude.{◌≡◌, ℕ, ◌≤◌, Bool, true, false, cond, ◌||◌, List, [], ◌∷◌, Option, Some, None, is_some, filter, length, drop}
 use Rattle.std.specs.Option.{option_map}
 use Rattle.std.specs.declared.cmp.Ordering.{Ordering}
 use Rattle.std.specs.Ordering.{eq_by_cmp}
 use Rattle.std.specs.BTreeMap.{is_at}
 use Rattle.std.specs.Map.Calls.{RetainsPairs}
 use Rattle.std.specs.List.{AllByRecursion, IsDistinct, list_any}
-use Rattle.std.specs.Cmp.{IsTotalOrder, eq_by_cmp_equiv}
-use Rattle.std.specs.FinMap.{FinMap, IsAntisymmetric, from_entries, get, insert, entries, entries_sorted, keys, contains_key-keys, get-entries, get-insert, get_tied, same_map}
+use Rattle.std.specs.Cmp.{IsTotalOrder, eq_by_cmp_equiv, nat_cmp_total}
+use Rattle.std.specs.Cmp.Lexicographic.{nat_list_cmp_total}
+use Rattle.std.specs.FinMap.{FinMap, IsAntisymmetric, from_entries, get, insert, entries, entries_sorted, keys, contains_key-keys, get-entries, get-insert, get_tied, same_map, nat_cmp-IsAntisymmetric}
 use Rattle.std.proofs.Common.{◌∙◌, ap, sym, refl}
+use Rattle.std.proofs.Math.ListN.{drop_of_length-le}
 use Rattle.std.proofs.lemmas.Map.Entries.{option_filter}
 use Rattle.std.proofs.lemmas.Map.Made.{lookup-map_values, filter_same_pairs}
 use Rattle.std.proofs.lemmas.Map.Steps.{list_any_congr}
 use Rattle.glacier_base.specs.Maps.{map_values, changed_at, changed_at_each, where_entries, with_value, OnlyTests}
-use Rattle.glacier_base.proofs.Finite.{get-from_tree, find_is_lookup}
+use Rattle.glacier_base.proofs.Finite.{get-from_tree, find_is_lookup, bytes_cmp-IsAntisymmetric}
 use Rattle.glacier_base.proofs.Sorted.{tied, distinct, find-filter}
 
 none_any : {K : Type 0} (test : K → Bool) (ks : List K) → AllByRecursion (λ y. test y ≡ false) ks → list_any test ks ≡ false
@@ -55,6 +57,10 @@ module _ {K X : Type 0} {R : K → K → Ordering} (o : IsTotalOrder R) (f : X �
       where_some None = refl
       where_some (Some x) = refl
 
+  -- a loop over the keys that has come to their end has changed each value
+  pub changed_at_each-done : IsAntisymmetric R → (ks : List K) (i : ℕ) (m n : FinMap R X) → ks ≡ keys m → length ks ≤ i → changed_at_each f (drop i ks) n ≡ changed_at_each f ks m → n ≡ map_values f m
+  changed_at_each-done same ks i m n is end e = sym (ap (λ ks. changed_at_each f ks n) (drop_of_length-le ks end)) ∙ e ∙ ap (λ ks. changed_at_each f ks m) is ∙ changed_at_each-keys same m
+
 module _ {K X : Type 0} {R : K → K → Ordering} (o : IsTotalOrder R) (same : IsAntisymmetric R) where
   -- what its own entries make is the map
   pub from_entries-entries : (m : FinMap R X) → from_entries (entries m) ≡ m
@@ -70,3 +76,7 @@ module _ {K X : Type 0} {R : K → K → Ordering} (o : IsTotalOrder R) (same : 
 
   pub get-where_entries : (test : K → X → Bool) (m : FinMap R X) (q : K) → get (where_entries test m) q ≡ option_filter (test q) (get m q)
   get-where_entries test m q = get-from_tree o _ q ∙ sym (find_is_lookup R q _) ∙ find-filter R same test q (entries m) (entries_sorted m) ∙ ap (option_filter (test q)) (sym (get-entries m q))
+
+-- a loop over a map's keys that changes each value
+pub ruleset each_by_number = (changed_at_each-done, nat_cmp_total, nat_cmp-IsAntisymmetric)
+pub ruleset each_by_bytes = (changed_at_each-done, nat_list_cmp_total, bytes_cmp-IsAntisymmetric)

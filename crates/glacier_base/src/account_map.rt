@@ -1,7 +1,7 @@
 // A map from accounts.
 #![tactic(auto, using(crate::proofs::Finite::trees_by_bytes))]
 
-ghost use Rattle.std.specs.Prelude.{◌≡◌, ◌<◌, ◌^◌, ℕ, List, Bool, nat_eq, IfOk, OnOk, OnErr, filter};
+ghost use Rattle.std.specs.Prelude.{◌≡◌, ◌<◌, ◌^◌, ℕ, List, Bool, nat_eq, IfOk, OnOk, OnErr, filter, None};
 ghost use Rattle.std.specs.Borrow.{LendsSo, sem};
 ghost use Rattle.std.specs.Cmp.Lexicographic.{slice_cmp};
 ghost use Rattle.std.specs.FinMap as map;
@@ -87,10 +87,12 @@ impl<V> AccountMap<V> {
 }
 
 impl<V: Drop> AccountMap<V> {
-    /// Puts a value at a key, in place of what is there. After an `Err` nothing has changed.
+    /// Puts a value at a key, in place of what is there. Only a new key takes memory.
+    /// After an `Err` nothing has changed.
     pub fn insert(&mut self, key: Account, value: V) -> Result<(), Memory>
         ensures ok { OnOk result (self.new ≡ map.insert self.old key value) }
         ensures err { OnErr result (self.new ≡ self.old) }
+        ensures new_key { OnErr result (map.get self.old key ≡ None) }
     {
         let _ = self.tree.insert(key, value)?;
         Ok(())
@@ -162,5 +164,34 @@ impl<V: Drop> AccountMap<V> {
     {
         let _ordered = self.tree.len();
         self.tree.retain(f);
+    }
+}
+
+#[cfg(test)]
+mod tests {
+    use super::*;
+
+    #[test]
+    fn three_entries(rt: HostRuntime) {
+        let [a, b, c] = [Account([b'1'; 12]), Account([b'2'; 12]), Account([b'3'; 12])];
+        let mut map: AccountMap<u64> = AccountMap::new(rt.alloc());
+        assert!(rt; map.is_empty());
+        for (key, value) in [(c, 3), (a, 1), (b, 2)] {
+            map.insert(key, value).expect(&rt, "memory");
+        }
+        if let Some(value) = map.get_mut(&b) {
+            *value = 5;
+        }
+        assert!(rt; map.get(&b) == Some(&5));
+        assert!(rt; map.iter().next() == Some((&a, &1)));
+        assert!(rt; map.range_from(&b).next() == Some((&b, &5)));
+        assert!(rt; map.keys().last() == Some(&c));
+        assert!(rt; map.values().last() == Some(&3));
+        let keys = map.key_list(rt.alloc()).expect(&rt, "memory");
+        assert!(rt; keys.as_slice() == [a, b, c].as_slice());
+        assert!(rt; map.remove(&c) == Some(3));
+        map.retain(|_, value| *value > 1);
+        assert!(rt; map.len() == 1);
+        assert!(rt; !map.contains(&a) && map.contains(&b));
     }
 }
