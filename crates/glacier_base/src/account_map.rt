@@ -173,7 +173,11 @@ mod tests {
 
     #[test]
     fn three_entries(rt: HostRuntime) {
-        let [a, b, c] = [Account([b'1'; 12]), Account([b'2'; 12]), Account([b'3'; 12])];
+        let [a, b, c] = [
+            Account([b'1'; 12]),
+            Account([b'2'; 12]),
+            Account([b'3'; 12]),
+        ];
         let mut map: AccountMap<u64> = AccountMap::new(rt.alloc());
         assert!(rt; map.is_empty());
         for (key, value) in [(c, 3), (a, 1), (b, 2)] {
