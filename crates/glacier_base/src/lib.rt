@@ -2,6 +2,7 @@
 #![tactic(auto)]
 
 mod account;
+mod account_map;
 mod civil;
 mod dates;
 mod description;
@@ -16,9 +17,14 @@ mod list;
 mod mem_files;
 mod mem_sink;
 mod moment;
+mod name_map;
 #[cfg(test)]
 mod name_tests;
+mod number_map;
 mod outside;
+#[cfg(test)]
+mod outside_tests;
+mod part_map;
 mod planned;
 mod reading;
 mod region;
@@ -27,6 +33,7 @@ mod text;
 mod vault_name;
 
 pub use account::Account;
+pub use account_map::AccountMap;
 pub use dates::{basic_date, basic_text, http_date_text, iso_text};
 pub use description::Description;
 pub use digest::Digest;
@@ -39,7 +46,10 @@ pub use list::List;
 pub use mem_files::MemFiles;
 pub use mem_sink::MemSink;
 pub use moment::{LAST_MOMENT, Moment};
+pub use name_map::NameMap;
+pub use number_map::NumberMap;
 pub use outside::{Failed, Memory};
+pub use part_map::PartMap;
 pub use region::Region;
 pub use sink::Sink;
 pub use text::Text;
