@@ -1,6 +1,7 @@
 pub mod DecideLemmas
 pub mod ExistLemmas
 pub mod HeardLemmas
+pub mod HearsLemmas
 pub mod JudgeLemmas
 pub mod NumberLemmas
 pub mod OpeningLemmas

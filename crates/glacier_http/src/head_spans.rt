@@ -5,7 +5,7 @@ use crate::span::Span;
 use httparse::spans::HeaderSpan;
 
 /// Where the parts of a head are in the buffer that begins with it.
-#[derive(Clone, Copy, Debug)]
+#[derive(Clone, Copy)]
 pub struct HeadSpans {
     pub method: Span,
     /// The target up to its first `?`.
@@ -25,7 +25,7 @@ pub struct HeadSpans {
 }
 
 /// What the first bytes of an input are.
-#[derive(Clone, Copy, Debug)]
+#[derive(Clone, Copy)]
 pub enum HeadStep {
     /// More bytes decide.
     Need,

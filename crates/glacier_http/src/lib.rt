@@ -5,7 +5,7 @@ mod bad_head;
 mod fields;
 mod head;
 mod head_spans;
-mod laws;
+pub mod laws;
 mod number;
 mod opening;
 mod reading;

@@ -4,6 +4,9 @@ use httparse::spans::{EMPTY_HEADER_SPAN, HeaderSpan};
 use std::alloc::Global;
 use std::marker::Model;
 
+/// How many fields 16,384 bytes can have, and one more: a field line has three bytes at least.
+const MOST_FIELDS: usize = 5_462;
+
 /// Room for the spans of a head's fields: 5,462, more than 16,384 bytes can have.
 #[derive(Drop)]
 pub struct HeadRoom {
@@ -29,7 +32,7 @@ impl HeadRoom {
     pub fn new(alloc: Global) -> Result<HeadRoom, Memory>
         ensures { IfOk result (λ room. length room ≡ 5462) }
     {
-        let spans = vec![in alloc; EMPTY_HEADER_SPAN; 5462]?;
+        let spans = vec![in alloc; EMPTY_HEADER_SPAN; MOST_FIELDS]?;
         Ok(HeadRoom { spans })
     }
 
