@@ -1,17 +1,13 @@
 -- Each text begins with a head, or can become one, or never will.
-use Rattle.std.proofs.Common.{◌≡◌, ◌≢◌, ℕ, zero, suc, ◌+◌, ◌<◌, ◌≤◌, ◌⊎◌, Bool, true, false, ◌&&◌, ltb, List, [], ◌∷◌, ◌++◌, length, inl, inr, refl, sym, ap, subst, ◌∙◌, arith, append_assoc, append-nil, length-append, codes}
+use Rattle.std.proofs.Common.{◌≡◌, ℕ, zero, suc, ◌+◌, ◌<◌, Bool, true, false, ◌&&◌, ltb, List, [], ◌∷◌, ◌++◌, length, inl, inr, refl, sym, ap, subst, ◌∙◌, arith, append_assoc, append-nil, length-append, codes}
 use Rattle.std.specs.List.{flat_map}
-use Rattle.std.specs.Prelude.{IsTrue}
-use Rattle.std.proofs.lemmas.Bool.{cases_lt, false≢true}
-use Rattle.std.proofs.lemmas.List.{append_cancel_left}
+use Rattle.std.proofs.lemmas.Bool.{false≢true}
 use Rattle.std.proofs.lemmas.List.Elements.{All-nil, All-push, All-cons}
-use Rattle.httparse.specs.Grammar.{is_uri_byte, is_token_byte, is_value_byte, AllPass, LineEnd, crlf, lf, print_end, print_blank, Field, print_field, IsField}
-use Rattle.httparse.specs.Pieces.{Piece, Method, Begins, Then, Never, Completes, Stops, is_newline, Bytes, Newline, BlankLines, Blank, Word, Version, Text, FieldLine, FieldLines, Section}
-use Rattle.httparse.proofs.PieceLemmas.{IsDeterministic, Then_deterministic, Word_deterministic, Method_deterministic, Version_deterministic, Newline_deterministic, space_ends_token, Never_intro, Never_elim, Refutes_first, Refutes_next, Blank_deterministic, Name_deterministic, newline_not_stopped, print_end_unique, Stops_value, Section_skip, FieldLines-append, colon_ends_token}
-use Rattle.httparse.proofs.OpenLemmas.{Completes_first, Completes_next, Completes_blank, some_newline, some_version, some_bytes, some_text, some_section, Newline_after_cr, Version_after_bytes, Version_before_digit, Word_cut, letter_is_token, FieldLine_of_row, Section_after_lines, Section_of_line}
-use Rattle.httparse.proofs.ReadLemmas.{Version_bytes, FieldLine_row, FieldLine_done, BeginsLine_either, Section_after, Section_done}
-use Rattle.httparse.proofs.RunLemmas.{run_unique}
-
+use Rattle.httparse.specs.Grammar.{is_uri_byte, is_token_byte, LineEnd, crlf, lf, print_end, print_blank, Field, print_field, IsField}
+use Rattle.httparse.specs.Pieces.{Piece, Method, Begins, Then, Never, Completes, Stops, is_newline, Newline, BlankLines, Blank, Word, Version, Text, FieldLine, FieldLines, Section}
+use Rattle.httparse.proofs.PieceLemmas.{IsDeterministic, Then_deterministic, Word_deterministic, Method_deterministic, Version_deterministic, Newline_deterministic, space_ends_token, Never_intro, Never_elim, Refutes_next, Blank_deterministic, Name_deterministic, newline_not_stopped, print_end_unique, Section_skip, FieldLines-append, colon_ends_token}
+use Rattle.httparse.proofs.OpenLemmas.{Completes_first, Completes_next, Completes_blank, some_newline, some_version, some_text, some_section, letter_is_token, FieldLine_of_row, Section_after_lines, Section_of_line}
+use Rattle.httparse.proofs.ReadLemmas.{FieldLine_row, FieldLine_done, BeginsLine_either, Section_after, Section_done}
 use Rattle.glacier_http.proofs.PieceLemmas.{Decided, found, partial, hopeless, decide_then, decide_newline, decide_word, decide_text, decide_version}
 
 pub decide_line : (s : List ℕ) → Decided FieldLine s

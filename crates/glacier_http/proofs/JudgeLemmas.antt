@@ -1,12 +1,12 @@
 -- What makes a head good, and how a path lies in its target.
-use Rattle.std.proofs.Common.{◌≡◌, ℕ, ◌+◌, ◌<◌, ◌≤◌, Bool, true, false, not, List, ◌++◌, length, take, drop, get_or, Some, None, inr, refl, sym, ap, arith, length-take}
-use Rattle.std.specs.Prelude.{codes, slice_range, All}
+use Rattle.std.proofs.Common.{◌≡◌, ℕ, ◌+◌, ◌<◌, ◌≤◌, Bool, true, false, not, List, length, take, Some, None, refl, sym, ap, arith, length-take}
+use Rattle.std.specs.Prelude.{codes, slice_range}
 use Rattle.std.proofs.lemmas.Grind.{common_steps, pieces}
 use Rattle.std.proofs.lemmas.Bool.{le-ltb}
 use Rattle.std.proofs.lemmas.List.{length-map, length-take-le, take_all}
 use Rattle.httparse.specs.declared.spans.HeaderSpan.{HeaderSpan}
 use Rattle.httparse.specs.Grammar.{RequestHead, Field}
-use Rattle.httparse.specs.Spans.{AreFieldsAt, name_and_value, header_bytes, IsWithin, IsHeaderWithin}
+use Rattle.httparse.specs.Spans.{AreFieldsAt, name_and_value, header_bytes}
 use Rattle.glacier_http.specs.Fields.{values_of}
 use Rattle.glacier_http.specs.Judged.{first_bad, content_length, is_empty, pairs}
 use Rattle.glacier_http.specs.Target.{is_path, path_of}

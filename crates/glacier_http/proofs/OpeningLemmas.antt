@@ -138,4 +138,3 @@ pub head_or_bad : (input : List ℕ) (h : RequestHead) (r : List ℕ) (cause : B
 head_or_bad input h r cause q x (o, y, bad) =
     let same = opening_once input (print_request h) o r q x.opening y in
     good_not_bad (print_request h) h [] cause (whole h x.head) x.good (subst (λ (l : List ℕ). IsBad l cause) (sym same.0) bad)
-

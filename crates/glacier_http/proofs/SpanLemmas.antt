@@ -1,6 +1,6 @@
 -- A stretch of a head is the same stretch of each buffer that begins with the head.
 use Rattle.std.proofs.Common.{◌≡◌, ℕ, ◌+◌, ◌-◌, ◌<◌, ◌≤◌, List, [], ◌∷◌, ◌++◌, length, take, drop, get_or, Some, None, refl, sym, ap, ap₂, subst, ◌∙◌, arith, length-append}
-use Rattle.std.specs.Prelude.{slice_range, map, All, Option, ⊤, IfSome, IfNone, if◌then◌else◌, nat_lt}
+use Rattle.std.specs.Prelude.{slice_range, map, All, Option, IfSome, IfNone, if◌then◌else◌, nat_lt}
 use Rattle.std.proofs.lemmas.Grind.{common_steps, pieces}
 use Rattle.std.proofs.lemmas.Bool.{le-ltb, lt-ltb}
 use Rattle.std.proofs.lemmas.List.{drop-take, same_lists, places}
@@ -10,7 +10,7 @@ use Rattle.httparse.specs.declared.spans.Span.{Span as UsizeSpan}
 use Rattle.httparse.specs.Spans.{header_bytes, IsHeaderWithin, IsWithin, AreFieldsAt}
 use Rattle.httparse.specs.Grammar.{Field}
 use Rattle.glacier_http.specs.declared.span.Span.{Span}
-use Rattle.glacier_http.specs.Spans.{Covers, CoversMaybe, stretch}
+use Rattle.glacier_http.specs.Spans.{Covers, CoversMaybe}
 use Rattle.glacier_http.specs.Target.{query_of}
 
 pub slice_range-append : (front rest : List ℕ) (s e : ℕ) → s ≤ e → e ≤ length front → slice_range (front ++ rest) s e ≡ slice_range front s e
@@ -69,11 +69,12 @@ module _ (front rest bytes : List ℕ) (begins : bytes ≡ front ++ rest) where
     where
       len : start + length (slice_range bytes start stop) ≡ stop
       len = length-range bytes start stop order (omega (arith, within, ap length begins, length-append front rest))
-  covers_query (Some s) start stop at target order within short is query none some =
-      (drop (at + 1) target,
-      query ∙ ap (λ (b : Rattle.std.proofs.Common.Bool). if b then Some (drop (at + 1) target) else None) (lt-ltb at (length target) (omega (arith, ap length is, some.0, len))),
-      covers s (start + (at + 1)) stop (drop (at + 1) target) (omega (arith, some.1)) some.2 (omega (arith, some.0)) within
-        (slice_range-drop bytes start stop (at + 1) (omega (arith, some.0)) inside ∙ ap (λ (b : List ℕ). drop (at + 1) b) is))
+  covers_query (Some s) start stop at target order within short is query none some = (
+    drop (at + 1) target,
+    query ∙ ap (λ (b : Rattle.std.proofs.Common.Bool). if b then Some (drop (at + 1) target) else None) (lt-ltb at (length target) (omega (arith, ap length is, some.0, len))),
+    covers s (start + (at + 1)) stop (drop (at + 1) target) (omega (arith, some.1)) some.2 (omega (arith, some.0)) within
+        (slice_range-drop bytes start stop (at + 1) (omega (arith, some.0)) inside ∙ ap (λ (b : List ℕ). drop (at + 1) b) is),
+  )
     where
       inside : stop ≤ length bytes
       inside = omega (arith, within, ap length begins, length-append front rest)

@@ -1,5 +1,5 @@
 -- What is found of the bytes that are looked at is what their opening says.
-use Rattle.std.proofs.Common.{◌≡◌, ◌≢◌, ℕ, ◌<◌, ◌≤◌, List, [], ◌∷◌, ◌++◌, length, take, drop, Some, None, inl, inr, refl, sym, ap, subst, ◌∙◌, arith, length-append, append_assoc, take-append-drop, length-take}
+use Rattle.std.proofs.Common.{◌≡◌, ◌≢◌, ℕ, ◌≤◌, List, ◌++◌, length, take, drop, inl, inr, refl, sym, ap, subst, ◌∙◌, arith, length-append, append_assoc, take-append-drop, length-take}
 use Rattle.std.proofs.lemmas.List.{take_all}
 use Rattle.httparse.specs.declared.spans.HeaderSpan.{HeaderSpan}
 use Rattle.httparse.specs.Grammar.{RequestHead, print_request}
@@ -8,11 +8,11 @@ use Rattle.glacier_http.specs.declared.head_spans.HeadSpans.{HeadSpans}
 use Rattle.glacier_http.specs.declared.head_spans.HeadStep.{HeadStep}
 use Rattle.glacier_http.specs.declared.head_spans.HeadStep.TheVariants.{Need, Head, Bad}
 use Rattle.glacier_http.specs.Head.{Reads, NeverHasHead}
-use Rattle.glacier_http.specs.Judged.{most_bytes, seen, first_bad, IsBad}
+use Rattle.glacier_http.specs.Judged.{most_bytes, seen, IsBad}
 use Rattle.glacier_http.specs.Opening.{IsOpening, BeginsHead, HasNoOpening}
 use Rattle.glacier_http.specs.Spans.{Shows, IsGood}
 use Rattle.glacier_http.specs.Step.{IsStep, NeedsMore, SameStep, IsFoundStep, IsJudged}
-use Rattle.glacier_http.proofs.ReadLemmas.{reads_unique, reads_more, never_may, never_more, bad_unique, good_not_bad, open_not_bad}
+use Rattle.glacier_http.proofs.ReadLemmas.{never_may, never_more, bad_unique, good_not_bad, open_not_bad}
 use Rattle.glacier_http.proofs.OpeningLemmas.{head_opens, head_more, opening_more, head_once, cause_once, head_or_bad}
 use Rattle.glacier_http.proofs.ShortestLemmas.{bad_opens}
 

@@ -1,5 +1,5 @@
 // Laws of the definitions, which no code calls.
-ghost use Rattle.std.specs.Prelude.{◌≡◌, ◌≢◌, ◌++◌, ℕ, List, Option};
+ghost use Rattle.std.specs.Prelude.{◌≡◌, ◌≢◌, ◌++◌, ℕ, List, Option, None};
 ghost use Rattle.httparse.specs.declared.spans.HeaderSpan.{HeaderSpan};
 ghost use Rattle.glacier_http.specs.declared.head_spans.HeadStep.{HeadStep};
 ghost use Rattle.glacier_http.specs.Messages.{Message, InputEnd, Begins, Hears, Heard};
@@ -46,4 +46,10 @@ pub fn each_is_heard()
 pub fn first_are_heard()
     ensures { (input : List ℕ) (ms ns : List Message) (rest other : List ℕ) (last : Option InputEnd) (end : InputEnd)
         → Hears 0 input ms rest last → Heard input ns other end → (more : List Message) × (ns ≡ ms ++ more) }
+{}
+
+/// Bytes that come later go to the rest, while no message was the last.
+pub fn later_bytes_are_left()
+    ensures { (input more : List ℕ) (messages : List Message) (rest : List ℕ) → Hears 0 input messages rest None
+        → Hears 0 (input ++ more) messages (rest ++ more) None }
 {}

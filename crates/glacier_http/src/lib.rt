@@ -12,10 +12,9 @@ mod reading;
 mod room;
 mod span;
 mod target;
-mod tokens;
-
 #[cfg(test)]
 mod tests;
+mod tokens;
 
 pub use bad_head::BadHead;
 pub use head::{Find, Head};

@@ -46,32 +46,87 @@ fn heads_cut_at_every_byte(rt: HostRuntime) -> Result<(), Fail> {
         (b"GET  / HTTP/1.1", 5, Said::Bad(BadHead::Syntax)),
         (b"GET / HTTP/2", 12, Said::Bad(BadHead::Syntax)),
         (b"GET / HTTP/1.1\r\na : b", 18, Said::Bad(BadHead::Syntax)),
-        (b"GET / HTTP/1.1\r\na: b\r\n c", 23, Said::Bad(BadHead::Syntax)),
+        (
+            b"GET / HTTP/1.1\r\na: b\r\n c",
+            23,
+            Said::Bad(BadHead::Syntax),
+        ),
         (b"GET / HTTP/1.1\r\r", 16, Said::Bad(BadHead::Syntax)),
         // The version counts once the head is whole.
         (b"GET / HTTP/1.0\r\n\r\n", 18, Said::Bad(BadHead::Syntax)),
         // A byte above 0x7F in the target, the query included.
-        (b"GET /\xc3\xa9 HTTP/1.1\r\n\r\n", 6, Said::Bad(BadHead::Syntax)),
-        (b"GET /?\x80 HTTP/1.1\r\n\r\n", 7, Said::Bad(BadHead::Syntax)),
+        (
+            b"GET /\xc3\xa9 HTTP/1.1\r\n\r\n",
+            6,
+            Said::Bad(BadHead::Syntax),
+        ),
+        (
+            b"GET /?\x80 HTTP/1.1\r\n\r\n",
+            7,
+            Said::Bad(BadHead::Syntax),
+        ),
         // The length.
-        (b"PUT / HTTP/1.1\r\nContent-Length: 5\r\ncontent-length: 5\r\n\r\n", 56, Said::Bad(BadHead::Length)),
-        (b"PUT / HTTP/1.1\r\nContent-Length: 00000000005\r\n\r\n", 47, Said::Bad(BadHead::Length)),
-        (b"PUT / HTTP/1.1\r\nContent-Length: 0000000005\r\n\r\n", 46, Said::Head),
-        (b"PUT / HTTP/1.1\r\nContent-Length: 8589934593\r\n\r\n", 46, Said::Bad(BadHead::Length)),
-        (b"PUT / HTTP/1.1\r\nContent-Length: 8589934592\r\n\r\n", 46, Said::Head),
-        (b"PUT / HTTP/1.1\r\nContent-Length:\r\n\r\n", 35, Said::Bad(BadHead::Length)),
-        (b"PUT / HTTP/1.1\r\nContent-Length: +5\r\n\r\n", 38, Said::Bad(BadHead::Length)),
-        (b"PUT / HTTP/1.1\r\nContent-Length: 5, 5\r\n\r\n", 40, Said::Bad(BadHead::Length)),
+        (
+            b"PUT / HTTP/1.1\r\nContent-Length: 5\r\ncontent-length: 5\r\n\r\n",
+            56,
+            Said::Bad(BadHead::Length),
+        ),
+        (
+            b"PUT / HTTP/1.1\r\nContent-Length: 00000000005\r\n\r\n",
+            47,
+            Said::Bad(BadHead::Length),
+        ),
+        (
+            b"PUT / HTTP/1.1\r\nContent-Length: 0000000005\r\n\r\n",
+            46,
+            Said::Head,
+        ),
+        (
+            b"PUT / HTTP/1.1\r\nContent-Length: 8589934593\r\n\r\n",
+            46,
+            Said::Bad(BadHead::Length),
+        ),
+        (
+            b"PUT / HTTP/1.1\r\nContent-Length: 8589934592\r\n\r\n",
+            46,
+            Said::Head,
+        ),
+        (
+            b"PUT / HTTP/1.1\r\nContent-Length:\r\n\r\n",
+            35,
+            Said::Bad(BadHead::Length),
+        ),
+        (
+            b"PUT / HTTP/1.1\r\nContent-Length: +5\r\n\r\n",
+            38,
+            Said::Bad(BadHead::Length),
+        ),
+        (
+            b"PUT / HTTP/1.1\r\nContent-Length: 5, 5\r\n\r\n",
+            40,
+            Said::Bad(BadHead::Length),
+        ),
         // The coding, which stands behind the length and before the path.
-        (b"PUT * HTTP/1.1\r\ntransfer-Encoding: identity\r\n\r\n", 47, Said::Bad(BadHead::Coding)),
-        (b"PUT / HTTP/1.1\r\nTransfer-Encoding: x\r\nContent-Length: x\r\n\r\n", 59, Said::Bad(BadHead::Length)),
+        (
+            b"PUT * HTTP/1.1\r\ntransfer-Encoding: identity\r\n\r\n",
+            47,
+            Said::Bad(BadHead::Coding),
+        ),
+        (
+            b"PUT / HTTP/1.1\r\nTransfer-Encoding: x\r\nContent-Length: x\r\n\r\n",
+            59,
+            Said::Bad(BadHead::Length),
+        ),
         // The path.
         (b"GET /%20 HTTP/1.1\r\n\r\n", 21, Said::Bad(BadHead::Path)),
         (b"GET * HTTP/1.1\r\n\r\n", 18, Said::Bad(BadHead::Path)),
         (b"GET /aZ0/-._~?%20*&x=y HTTP/1.1\r\n\r\n", 35, Said::Head),
     ];
     for (text, settled, answer) in rows {
-        assert!(rt; is_settled(text, settled, answer, &mut room), "{answer:?} at {settled}");
+        assert!(rt;
+            is_settled(text, settled, answer, &mut room),
+            "{answer:?} at {settled}"
+        );
     }
     Ok(())
 }
@@ -96,7 +151,13 @@ fn long_heads_cut_at_every_byte(rt: HostRuntime) -> Result<(), Fail> {
     let rows: [(u32, u32, &[u8], usize, Said); 7] = [
         (64, 3, b"\r\n", 402, Said::Head),
         (65, 3, b"\r\n", 408, Said::Bad(BadHead::TooMany)),
-        (64, 3, b"Content-Length: x\r\n\r\n", 421, Said::Bad(BadHead::TooMany)),
+        (
+            64,
+            3,
+            b"Content-Length: x\r\n\r\n",
+            421,
+            Said::Bad(BadHead::TooMany),
+        ),
         // A head of 16,384 bytes, and one of 16,385.
         (49, 331, b"\r\n", 16_384, Said::Head),
         (48, 338, b"\n", 16_384, Said::Bad(BadHead::TooLong)),
@@ -106,13 +167,20 @@ fn long_heads_cut_at_every_byte(rt: HostRuntime) -> Result<(), Fail> {
     ];
     for (count, width, end, settled, answer) in rows {
         let text = with_fields(rt.alloc(), count, width, end)?;
-        assert!(rt; is_settled(&text, settled, answer, &mut room), "{answer:?} at {settled}");
+        assert!(rt;
+            is_settled(&text, settled, answer, &mut room),
+            "{answer:?} at {settled}"
+        );
     }
     Ok(())
 }
 
 /// Whether the head of a request with this target and these fields asks to close, and expects an interim line.
-fn flags(alloc: Global, fields: &[u8], room: &mut HeadRoom) -> Result<Option<(bool, bool)>, AllocError> {
+fn flags(
+    alloc: Global,
+    fields: &[u8],
+    room: &mut HeadRoom,
+) -> Result<Option<(bool, bool)>, AllocError> {
     let mut text = b"GET / HTTP/1.1\r\n".to_vec(alloc)?;
     text.extend_from_slice(fields)?;
     text.extend_from_slice(b"\r\n")?;
@@ -130,23 +198,35 @@ fn close_and_expect(rt: HostRuntime) -> Result<(), Fail> {
         (b"connection: CLOSE\r\n", true, false),
         (b"Connection: keep-alive, Close\r\n", true, false),
         (b"Connection:\tclose\t,x\r\n", true, false),
-        (b"Connection: keep-alive\r\nConnection: ,close\r\n", true, false),
+        (
+            b"Connection: keep-alive\r\nConnection: ,close\r\n",
+            true,
+            false,
+        ),
         (b"Connection: closed\r\n", false, false),
         (b"Connection: close;x\r\n", false, false),
         (b"Connection: keep-alive close\r\n", false, false),
         (b"Expect: 100-Continue \r\n", false, true),
         (b"Expect: 100-continue, x\r\n", false, false),
-        (b"Expect: x\r\nexpect:100-continue\r\nConnection: close\r\n", true, true),
+        (
+            b"Expect: x\r\nexpect:100-continue\r\nConnection: close\r\n",
+            true,
+            true,
+        ),
     ];
     for (fields, close, expect) in rows {
-        assert_eq!(rt; flags(rt.alloc(), fields, &mut room)?, Some((close, expect)));
+        assert_eq!(rt;
+            flags(rt.alloc(), fields, &mut room)?,
+            Some((close, expect))
+        );
     }
     Ok(())
 }
 
 #[test]
 fn parts(rt: HostRuntime) -> Result<(), Fail> {
-    let text = b"\r\nPUT /-/vaults/v?limit=1?x HTTP/1.1\r\nHost: h\r\nX-A:\t1 \r\nx-a: 2\r\nContent-Length: 4\r\n\r\nbody";
+    let text =
+        b"\r\nPUT /-/vaults/v?limit=1?x HTTP/1.1\r\nHost: h\r\nX-A:\t1 \r\nx-a: 2\r\nContent-Length: 4\r\n\r\nbody";
     let mut room = HeadRoom::new(rt.alloc()).ok().ok_or("memory")?;
     let HeadStep::Head(spans) = read_head(text, &mut room) else {
         return Err(Fail::from("no head"));
