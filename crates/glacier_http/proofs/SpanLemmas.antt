@@ -11,7 +11,7 @@ use Rattle.httparse.specs.Spans.{header_bytes, IsHeaderWithin, IsWithin, AreFiel
 use Rattle.httparse.specs.Grammar.{Field}
 use Rattle.glacier_http.specs.declared.span.Span.{Span}
 use Rattle.glacier_http.specs.Spans.{Covers, CoversMaybe}
-use Rattle.glacier_http.specs.Target.{query_of}
+use Rattle.glacier_http.specs.Target.{query_of, behind}
 
 pub slice_range-append : (front rest : List ℕ) (s e : ℕ) → s ≤ e → e ≤ length front → slice_range (front ++ rest) s e ≡ slice_range front s e
 slice_range-append front rest s e order within = grind (arith, common_steps, pieces)
@@ -61,7 +61,7 @@ module _ (front rest bytes : List ℕ) (begins : bytes ≡ front ++ rest) where
   -- the bytes behind the question mark
   pub covers_query : (r : Option Span) (start stop at : ℕ) (target : List ℕ) → start ≤ stop → stop ≤ length front → at ≤ length target
       → slice_range bytes start stop ≡ target
-      → query_of target ≡ (if nat_lt at (length target) then Some (drop (at + 1) target) else None)
+      → query_of target ≡ behind at target
       → IfNone r (stop ≤ start + at) → IfSome r (λ s. (start + at < stop) × (s.start ≡ start + at + 1) × (s.end ≡ stop))
       → CoversMaybe front r (query_of target)
   covers_query None start stop at target order within short is query none some =

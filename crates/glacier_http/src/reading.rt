@@ -86,8 +86,8 @@ fn spans_of(bytes: &[u8], headers: &[HeaderSpan], parsed: RequestSpans, body: u6
     requires within { IsRequestWithin bytes.now headers.now parsed }
     requires few { parsed.headers ≤ 64 }
     requires short { length bytes.now < 2 ^ 32 }
-    ensures { (h : RequestHead) → IsRequestAt bytes.now headers.now parsed h → content_length_of h ≡ Some body
-        → Shows headers.now result h }
+    ensures { (h : RequestHead) → IsRequestAt bytes.now headers.now parsed h
+        → content_length_of h ≡ Some body → Shows headers.now result h }
 {
     let fields = &headers[..parsed.headers];
     let target = parsed.path;

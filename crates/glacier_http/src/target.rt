@@ -1,6 +1,6 @@
-ghost use Rattle.std.specs.Prelude.{◌≡◌, ◌+◌, ◌≤◌, ◌<◌, length, take, drop, if◌then◌else◌, nat_lt, Some, None};
+ghost use Rattle.std.specs.Prelude.{◌≡◌, ◌≤◌, length, take};
 ghost use Rattle.std.specs.List.{list_all};
-ghost use Rattle.glacier_http.specs.Target.{is_target_ascii as is_ascii, is_path as path_test, is_path_byte as path_byte, path_of, query_of};
+ghost use Rattle.glacier_http.specs.Target.{is_target_ascii as is_ascii, is_path as path_test, is_path_byte as path_byte, path_of, query_of, behind};
 
 /// Whether each byte of the target that has come is ASCII.
 pub(crate) fn is_target_ascii(bytes: &[u8]) -> bool
@@ -24,7 +24,7 @@ pub(crate) fn is_target_ascii(bytes: &[u8]) -> bool
 pub(crate) fn path_end(target: &[u8]) -> usize
     ensures within { result ≤ length target.now }
     ensures path { take result target.now ≡ path_of target.now }
-    ensures query { query_of target.now ≡ (if nat_lt result (length target.now) then Some (drop (result + 1) target.now) else None) }
+    ensures query { query_of target.now ≡ behind result target.now }
 {
     for (i, b) in target.iter().enumerate() {
         if *b == b'?' {
