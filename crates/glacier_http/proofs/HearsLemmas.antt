@@ -1,7 +1,7 @@
 -- What is heard so far goes on as bytes and messages come.
 use Rattle.std.proofs.Common.{◌≡◌, ℕ, ◌+◌, List, [], ◌∷◌, ◌++◌, length, Some, None, refl, sym, ap, subst, ◌∙◌, arith, append_assoc}
-use Rattle.std.specs.Prelude.{Option, MatchOption}
-use Rattle.glacier_http.specs.Messages.{Message, good as Good, bad as Bad, Begins, InputEnd, Hears, last_end}
+use Rattle.std.specs.Prelude.{Option}
+use Rattle.glacier_http.specs.Messages.{Message, good as Good, bad as Bad, Begins, InputEnd, Hears, Follows, last_end}
 use Rattle.glacier_http.proofs.OpeningLemmas.{opening_more, head_more}
 
 -- the message at the start stays as more bytes come
@@ -18,8 +18,7 @@ hears_more n input (m ∷ ms) rest more (left, begins, on) =
     (left ++ more, begins_more input m left more begins, next (last_end n m) (hears_more (n + 1) left ms rest more) on)
   where
     next : (e : Option InputEnd) → (Hears (n + 1) left ms rest None → Hears (n + 1) (left ++ more) ms (rest ++ more) None)
-        → MatchOption e (Hears (n + 1) left ms rest None) (λ e. (ms ≡ []) × (rest ≡ left) × (None ≡ Some e))
-        → MatchOption e (Hears (n + 1) (left ++ more) ms (rest ++ more) None) (λ e. (ms ≡ []) × (rest ++ more ≡ left ++ more) × (None ≡ Some e))
+        → Follows n left ms rest None e → Follows n (left ++ more) ms (rest ++ more) None e
     next None step on = step on
     next (Some e) step on = absurd (cc)
 
@@ -30,14 +29,13 @@ hears_one n k input [] mid m rest last at (is, none) begins end =
     let same : k ≡ n = omega (arith, at) in
     (rest, subst (λ (l : List ℕ). Begins l m rest) is begins, finish (last_end n m) (ap (λ (j : ℕ). last_end j m) (sym same) ∙ end))
   where
-    finish : (e : Option InputEnd) → e ≡ last → MatchOption e ((rest ≡ rest) × (last ≡ None)) (λ e. ◌≡◌ {A = List Message} [] [] × (rest ≡ rest) × (last ≡ Some e))
+    finish : (e : Option InputEnd) → e ≡ last → Follows n rest [] rest last e
     finish None is = (refl, sym is)
     finish (Some e) is = (refl, refl, sym is)
 hears_one n k input (x ∷ ms) mid m rest last at (left, first, on) begins end =
     (left, first, next (last_end n x) (λ more. hears_one (n + 1) k left ms mid m rest last (omega (arith, at)) more begins end) on)
   where
     next : (e : Option InputEnd) → (Hears (n + 1) left ms mid None → Hears (n + 1) left (ms ++ m ∷ []) rest last)
-        → MatchOption e (Hears (n + 1) left ms mid None) (λ e. (ms ≡ []) × (mid ≡ left) × (None ≡ Some e))
-        → MatchOption e (Hears (n + 1) left (ms ++ m ∷ []) rest last) (λ e. (ms ++ m ∷ [] ≡ []) × (rest ≡ left) × (last ≡ Some e))
+        → Follows n left ms mid None e → Follows n left (ms ++ m ∷ []) rest last e
     next None step on = step on
     next (Some e) step on = absurd (cc)

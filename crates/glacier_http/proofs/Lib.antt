@@ -1,3 +1,4 @@
+pub mod BeginLemmas
 pub mod DecideLemmas
 pub mod ExistLemmas
 pub mod HeardLemmas

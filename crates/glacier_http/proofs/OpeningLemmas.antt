@@ -82,18 +82,25 @@ opening_bad input opening rest cause o bad =
 -- the longer of two fronts of one text goes on from the shorter
 goes_on : (o r o' r' : List ℕ) → o ++ r ≡ o' ++ r' → length o ≤ length o' → o' ≡ o ++ drop (length o) o'
 goes_on o r o' r' same le =
+    let all : take (length o) (o ++ r) ≡ o = take-append-le (length o) o r (omega arith) ∙ take_all (length o) o (omega arith) in
     let front : take (length o) o' ≡ o =
-    sym (take-append-le (length o) o' r' le) ∙ ap (λ (l : List ℕ). take (length o) l) (sym same) ∙ take-append-le (length o) o r (omega arith) ∙ take_all (length o) o (omega arith) in
+    sym (take-append-le (length o) o' r' le) ∙ ap (λ (l : List ℕ). take (length o) l) (sym same) ∙ all in
     sym (take-append-drop (length o) o') ∙ ap (λ (l : List ℕ). l ++ drop (length o) o') front
 
-pub one_opening : (input o r o' r' : List ℕ) → IsOpening input o r → IsOpening input o' r' → o ≡ o'
-one_opening input o r o' r' x y = elim (cases_lt (length o) (length o')) [
-  | inl lt ↦ absurd (y.shortest o (drop (length o) o') (goes_on o r o' r' (sym x.parts ∙ y.parts) (omega (arith, lt))) (omega (arith, lt, length-drop (length o) o')) x.ends)
-  | inr ge ↦ elim (cases_lt (length o') (length o)) [
-    | inl lt ↦ absurd (x.shortest o' (drop (length o') o) (goes_on o' r' o r (sym y.parts ∙ x.parts) (omega (arith, lt))) (omega (arith, lt, length-drop (length o') o)) y.ends)
+-- an opening has no shorter one in front of it
+no_shorter : (input o r p q : List ℕ) → IsOpening input o r → IsOpening input p q → length o < length p → ⊥
+no_shorter input o r p q x y lt =
+    let longer = goes_on o r p q (sym x.parts ∙ y.parts) (omega (arith, lt)) in
+    y.shortest o (drop (length o) p) longer (omega (arith, lt, length-drop (length o) p)) x.ends
+
+pub one_opening : (input o r p q : List ℕ) → IsOpening input o r → IsOpening input p q → o ≡ p
+one_opening input o r p q x y = elim (cases_lt (length o) (length p)) [
+  | inl lt ↦ absurd (no_shorter input o r p q x y lt)
+  | inr ge ↦ elim (cases_lt (length p) (length o)) [
+    | inl lt ↦ absurd (no_shorter input p q o r y x lt)
     | inr le ↦
-        let longer : o' ≡ o ++ drop (length o) o' = goes_on o r o' r' (sym x.parts ∙ y.parts) (omega (arith, le)) in
-        let none : drop (length o) o' ≡ [] = empty (drop (length o) o') (omega (arith, ge, le, length-drop (length o) o')) in
+        let longer : p ≡ o ++ drop (length o) p = goes_on o r p q (sym x.parts ∙ y.parts) (omega (arith, le)) in
+        let none : drop (length o) p ≡ [] = empty (drop (length o) p) (omega (arith, ge, le, length-drop (length o) p)) in
         sym (longer ∙ ap (λ (l : List ℕ). o ++ l) none ∙ append-nil o)
   ]
 ]
@@ -134,7 +141,8 @@ cause_once input a b r q (o, x, bad) (p, y, bad') =
     let same = opening_once input o p r q x y in
     (bad_unique p a b (subst (λ (l : List ℕ). IsBad l a) same.0 bad) bad', same.1)
 
-pub head_or_bad : (input : List ℕ) (h : RequestHead) (r : List ℕ) (cause : BadHead) (q : List ℕ) → BeginsHead input h r → BeginsBad input cause q → ⊥
+pub head_or_bad : (input : List ℕ) (h : RequestHead) (r : List ℕ) (cause : BadHead) (q : List ℕ) → BeginsHead input h r
+    → BeginsBad input cause q → ⊥
 head_or_bad input h r cause q x (o, y, bad) =
     let same = opening_once input (print_request h) o r q x.opening y in
     good_not_bad (print_request h) h [] cause (whole h x.head) x.good (subst (λ (l : List ℕ). IsBad l cause) (sym same.0) bad)
