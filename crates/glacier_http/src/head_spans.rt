@@ -1,3 +1,4 @@
+// Where the parts of a head are.
 use crate::bad_head::BadHead;
 use crate::head::Head;
 use crate::room::HeadRoom;

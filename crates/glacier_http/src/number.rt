@@ -1,3 +1,4 @@
+// Decimal numbers.
 ghost use Rattle.std.specs.Prelude.{◌≡◌, ◌≤◌};
 ghost use Rattle.glacier_http.specs.Fields.{number_of};
 

@@ -1,3 +1,4 @@
+// Heads of each kind, cut at every byte, and what a good one says.
 use crate::{BadHead, Find, HeadRoom, HeadStep, read_head};
 use std::alloc::{AllocError, Global};
 use std::test::Fail;

@@ -1,3 +1,4 @@
+// Texts that are compared without regard to case, and the tokens of a list.
 ghost use Rattle.std.specs.Prelude.{◌≡◌, reverse};
 ghost use Rattle.httparse.specs.Grammar.{skip_ows, trim_ows};
 ghost use Rattle.glacier_http.specs.Fields.{same_text, has_token as token_test};
