@@ -1,0 +1,17 @@
+pub mod BeginLemmas
+pub mod DecideLemmas
+pub mod ExistLemmas
+pub mod HeardLemmas
+pub mod HearsLemmas
+pub mod JudgeLemmas
+pub mod NumberLemmas
+pub mod OpeningLemmas
+pub mod PieceLemmas
+pub mod ReadLemmas
+pub mod RoomLemmas
+pub mod ScanLemmas
+pub mod ShortestLemmas
+pub mod SpanLemmas
+pub mod StepLemmas
+pub mod TargetLemmas
+pub mod ViewLemmas

@@ -1,0 +1,10 @@
+pub mod Fields
+pub mod Head
+pub mod Judged
+pub mod Messages
+pub mod Opening
+pub mod Parsed
+pub mod Spans
+pub mod Step
+pub mod Target
+pub mod View
