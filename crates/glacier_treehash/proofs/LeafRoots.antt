@@ -42,9 +42,9 @@ count_fits w n m q some covers fits =
     elim (leb_tells n q) [
       | inl le ↦ le.1
       | inr lt ↦ elim covers.needed [
-          | inl one ↦ omega arith
-          | inr less ↦ (let above : suc q ≤ n = omega (arith, lt.1) in absurd (omega (arith, less, mul-le-mul_left w above)))
-        ]
+        | inl one ↦ omega arith
+        | inr less ↦ (let above : suc q ≤ n = omega (arith, lt.1) in absurd (omega (arith, less, mul-le-mul_left w above)))
+      ]
     ]
 
 -- and more bytes have more
@@ -62,16 +62,16 @@ covers_rest w q r n m p sum place more front back covers =
     record {
       some = back;
       enough = omega (arith, covers.enough);
-      needed = elim covers.needed [ | inl one ↦ absurd (omega arith) | inr less ↦ inr (omega (arith, less)) ];
+      needed = elim covers.needed [ inl one ↦ absurd (omega arith) | inr less ↦ inr (omega (arith, less)) ];
     }
 
 -- the pieces on both sides of a whole one
-take-digests : (w m n p : ℕ) (b : List ℕ) → m ≤ n → p ≡ m * w → take m (digests w n b) ≡ digests w m (take p b)
+pub take-digests : (w m n p : ℕ) (b : List ℕ) → m ≤ n → p ≡ m * w → take m (digests w n b) ≡ digests w m (take p b)
 take-digests w m n p b h e =
     let parts = digests-add w m (n - m) n b (omega arith) in
     rw (parts, e, digests-take w m b) (take_at (digests w m b) (digests w (n - m) (drop (m * w) b)) m (length-digests w m b))
 
-drop-digests : (w m n p : ℕ) (b : List ℕ) → m ≤ n → p ≡ m * w → drop m (digests w n b) ≡ digests w (n - m) (drop p b)
+pub drop-digests : (w m n p : ℕ) (b : List ℕ) → m ≤ n → p ≡ m * w → drop m (digests w n b) ≡ digests w (n - m) (drop p b)
 drop-digests w m n p b h e =
     let parts = digests-add w m (n - m) n b (omega arith) in
     rw (parts, e) (drop_at (digests w m b) (digests w (n - m) (drop (m * w) b)) m (length-digests w m b))
@@ -108,8 +108,8 @@ tree-digests w (suc k) n b wide covers fits =
           let front : Covers w (1 * 2 ^ k) (length (take (w * 2 ^ k) b)) = record { some = omega arith; enough = omega arith; needed = inr (omega arith) } in
           let back = covers_rest w (1 * 2 ^ k) (n - 1 * 2 ^ k) n (length b) (w * 2 ^ k) (omega arith) (omega arith) lt.1 (omega arith) (omega arith) covers in
           same_cut w k n b (omega arith) lt.1
-            (tree-digests w k (1 * 2 ^ k) (take (w * 2 ^ k) b) wide front (omega arith))
-            (tree-digests w k (n - 1 * 2 ^ k) (drop (w * 2 ^ k) b) wide (rw right back) (omega arith)))
+          (tree-digests w k (1 * 2 ^ k) (take (w * 2 ^ k) b) wide front (omega arith))
+          (tree-digests w k (n - 1 * 2 ^ k) (drop (w * 2 ^ k) b) wide (rw right back) (omega arith)))
     ]
 
 -- the root over the digests of the pieces is the tree over the bytes
@@ -125,10 +125,10 @@ root-digests w n b wide covers =
 -- so many leaves are there
 pub leaves_cover : (m : ℕ) → Covers mib (leaf_count m) m
 leaves_cover m = record {
-    some = omega arith;
-    enough = omega arith;
-    needed = elim (leb_tells m mib) [ | inl le ↦ inl (omega (arith, le.1)) | inr lt ↦ inr (omega (arith, lt.1)) ];
-  }
+  some = omega arith;
+  enough = omega arith;
+  needed = elim (leb_tells m mib) [ inl le ↦ inl (omega (arith, le.1)) | inr lt ↦ inr (omega (arith, lt.1)) ];
+}
 
 -- the root over the leaves of bytes is their tree hash
 pub root_of_digests-leaves_of : (b : List ℕ) → root_of_digests (leaves_of b) ≡ tree_hash_of b

@@ -4,6 +4,7 @@
 mod forked;
 mod hasher;
 mod linear;
+mod nodes;
 mod piece;
 mod root;
 mod roots;
@@ -14,6 +15,7 @@ mod tree;
 pub use forked::{Gate, Open, tree_hash_forked};
 pub use hasher::TreeHasher;
 pub use linear::Linear;
+pub use nodes::{is_node, range_hash};
 pub use piece::{hash_leaves, hash_piece};
 pub use root::root_of;
 pub use tree::{MIB, tree_hash, tree_hash_cases};

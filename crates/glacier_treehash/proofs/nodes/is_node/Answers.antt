@@ -1,0 +1,59 @@
+use Rattle.std.proofs.Common.{◌≡◌, ◌⊎◌, ◌-◌, ◌/◌, ◌%◌, ◌≤◌, ◌<◌, inl, inr, arith}
+use Rattle.std.proofs.lemmas.Bool.{eqb-true, eq-eqb}
+use Rattle.glacier_treehash.specs.Tree.{mib}
+use Rattle.glacier_treehash.proofs.Stretches.{node_bounds}
+use Rattle.glacier_treehash.proofs.Widths.{IsLeast, Passes, least_of, passing_node, node_passes}
+use Rattle.glacier_treehash.proofs.nodes.is_node.Goals as goal
+use Rattle.glacier_treehash.proofs.nodes.is_node.Goals.{then-first-end-via-then-first-end, then-first-end-via-else-first-end+then-end-size, then-first-end-via-else-first-end+else-end-size+then-first-ne0}
+
+pub returns-then-first-end-clause-node : goal.returns-then-first-end-clause-node
+returns-then-first-end-clause-node c = (
+  (λ no. cc),
+  λ node.
+      let bounds = node_bounds node in
+      elim c.then-first-end.branch [
+        | then-first-end-via-then-first-end w ↦ absurd (omega (arith, bounds.0, w.if-first-end.true))
+        | then-first-end-via-else-first-end+then-end-size w ↦ absurd (omega (arith, bounds.1, w.if-end-size.true))
+        | then-first-end-via-else-first-end+else-end-size+then-first-ne0 w ↦ absurd (omega (arith, bounds.2, w.if-first-ne0.true))
+      ],
+)
+
+pub returns-then-first-width-ne0-clause-node : goal.returns-then-first-width-ne0-clause-node
+returns-then-first-width-ne0-clause-node c = (
+  (λ no. cc),
+  λ node.
+      let width = c.next_power_of_two-width in
+      let least = least_of _ (c.args.end - c.args.first) _ c.div_ceil.ensures width.ensures.power width.ensures.lower_bound width.ensures.upper_bound in
+      let passes = node_passes _ _ _ _ least node in
+      absurd (omega (arith, passes.placed, c.if-first-width-ne0.true)),
+)
+
+pub returns-then-end-size-2-clause-node : goal.returns-then-end-size-2-clause-node
+returns-then-end-size-2-clause-node c =
+    let width = c.next_power_of_two-width in
+    let least = least_of _ (c.args.end - c.args.first) _ c.div_ceil.ensures width.ensures.power width.ensures.lower_bound width.ensures.upper_bound in (
+      (λ _. passing_node _ _ _ _ least (record {
+        filled = c.if-first-end.false;
+        within = c.if-end-size.false;
+        whole = c.if-first-ne0.false;
+        placed = c.if-first-width-ne0.false;
+        ends = inl c.if-end-size-2.true;
+      })),
+      λ _. eq-eqb _ _ c.if-end-size-2.true,
+    )
+
+pub returns-else-end-size-2-clause-node : goal.returns-else-end-size-2-clause-node
+returns-else-end-size-2-clause-node c =
+    let width = c.next_power_of_two-width in
+    let least = least_of _ (c.args.end - c.args.first) _ c.div_ceil.ensures width.ensures.power width.ensures.lower_bound width.ensures.upper_bound in (
+      (λ same. passing_node _ _ _ _ least (record {
+        filled = c.if-first-end.false;
+        within = c.if-end-size.false;
+        whole = c.if-first-ne0.false;
+        placed = c.if-first-width-ne0.false;
+        ends = inr (eqb-true _ _ same);
+      })),
+      λ node.
+          let passes = node_passes _ _ _ _ least node in
+          elim passes.ends [ inl is ↦ absurd (c.if-end-size-2.false is) | inr is ↦ eq-eqb _ _ is ],
+    )

@@ -1,0 +1,44 @@
+// Nodes of a tree, and the tree hashes of ranges.
+ghost use Rattle.std.specs.Prelude.{◌≡◌, ◌<◌, ◌≤◌, ◌↔◌, ℕ, List, IsTrue, IsSome, IfSome, length, slice_range};
+ghost use Rattle.std.specs.Int.{div_ceil};
+ghost use Rattle.glacier_treehash.specs.Leaves.{leaves_of};
+ghost use Rattle.glacier_treehash.specs.Nodes.{IsNode};
+ghost use Rattle.glacier_treehash.specs.Tree.{tree_hash_of};
+
+use crate::root::root_of;
+use crate::tree::MIB;
+use glacier_base::Digest;
+
+const LEAF: u64 = MIB as u64;
+
+/// Whether the bytes from `first` to before `end` are a node of the tree over `size` bytes: that is, whether they
+/// are such a stretch of 2^k leaves as begins at a multiple of its length, or what is left of one at the end.
+pub fn is_node(size: u64, first: u64, end: u64) -> bool
+    ensures node { IsTrue result ↔ IsNode size first end }
+    ensures range { IsTrue result → (first < end) × (end ≤ size) }
+{
+    if first >= end || end > size || first % LEAF != 0 {
+        return false;
+    }
+    let width = (end - first).div_ceil(LEAF).next_power_of_two();
+    if first / LEAF % width != 0 {
+        return false;
+    }
+    end == size || (end - first) / LEAF == width
+}
+
+/// The tree hash of the bytes from `first` to before `end`, of `size` bytes with these leaves: None where they are no node.
+pub fn range_hash(leaves: &[Digest], size: u64, first: u64, end: u64) -> Option<Digest>
+    requires some { 1 ≤ size }
+    requires count { length leaves.now ≡ div_ceil size MIB }
+    ensures node { IsSome result ↔ IsNode size first end }
+    ensures tree_hash { (bytes : List ℕ) → length bytes ≡ size → leaves.now ≡ leaves_of bytes →
+        IfSome result (λ digest. digest ≡ tree_hash_of (slice_range bytes first end)) }
+{
+    if !is_node(size, first, end) {
+        return None;
+    }
+    let start = (first / LEAF) as usize;
+    let stop = end.div_ceil(LEAF) as usize;
+    root_of(&leaves[start..stop])
+}
