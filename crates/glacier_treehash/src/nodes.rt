@@ -1,5 +1,5 @@
 // Nodes of a tree, and the tree hashes of ranges.
-ghost use Rattle.std.specs.Prelude.{◌≡◌, ◌<◌, ◌≤◌, ◌↔◌, ℕ, List, IsTrue, IsSome, IfSome, length, slice_range};
+ghost use Rattle.std.specs.Prelude.{◌≡◌, ◌-◌, ◌/◌, ◌<◌, ◌≤◌, ◌⊎◌, ◌↔◌, ℕ, List, IsTrue, IsSome, IfSome, length, slice_range};
 ghost use Rattle.std.specs.Int.{div_ceil};
 ghost use Rattle.glacier_treehash.specs.Leaves.{leaves_of};
 ghost use Rattle.glacier_treehash.specs.Nodes.{IsNode};
@@ -11,8 +11,8 @@ use glacier_base::Digest;
 
 const LEAF: u64 = MIB as u64;
 
-/// Whether the bytes from `first` to before `end` are a node of the tree over `size` bytes: that is, whether they
-/// are such a stretch of 2^k leaves as begins at a multiple of its length, or what is left of one at the end.
+/// Whether the bytes from `first` to before `end` are a node of the tree over `size` bytes: a stretch of 2^k leaves that
+/// begins at a multiple of its length, or what is left of one at the end. False for a size of 0.
 pub fn is_node(size: u64, first: u64, end: u64) -> bool
     ensures node { IsTrue result ↔ IsNode size first end }
     ensures range { IsTrue result → (first < end) × (end ≤ size) }
@@ -24,6 +24,14 @@ pub fn is_node(size: u64, first: u64, end: u64) -> bool
     if first / LEAF % width != 0 {
         return false;
     }
+    is_filled(size, first, end, width)
+}
+
+// Whether these bytes are so many whole leaves, or end with all bytes.
+fn is_filled(size: u64, first: u64, end: u64, width: u64) -> bool
+    requires { first ≤ end }
+    ensures { IsTrue result ↔ (end ≡ size) ⊎ ((end - first) / MIB ≡ width) }
+{
     end == size || (end - first) / LEAF == width
 }
 
@@ -38,7 +46,14 @@ pub fn range_hash(leaves: &[Digest], size: u64, first: u64, end: u64) -> Option<
     if !is_node(size, first, end) {
         return None;
     }
-    let start = (first / LEAF) as usize;
-    let stop = end.div_ceil(LEAF) as usize;
-    root_of(&leaves[start..stop])
+    root_of(leaves_between(leaves, first, end))
+}
+
+// The leaves of the bytes from `first` to before `end`.
+fn leaves_between(leaves: &[Digest], first: u64, end: u64) -> &[Digest]
+    requires order { first < end }
+    requires within { div_ceil end MIB ≤ length leaves.now }
+    ensures { result.now ≡ slice_range leaves.now (first / MIB) (div_ceil end MIB) }
+{
+    &leaves[(first / LEAF) as usize..end.div_ceil(LEAF) as usize]
 }

@@ -28,32 +28,15 @@ returns-then-first-width-ne0-clause-node c = (
       absurd (omega (arith, passes.placed, c.if-first-width-ne0.true)),
 )
 
-pub returns-then-end-size-2-clause-node : goal.returns-then-end-size-2-clause-node
-returns-then-end-size-2-clause-node c =
+pub returns-clause-node : goal.returns-clause-node
+returns-clause-node c =
     let width = c.next_power_of_two-width in
-    let least = least_of _ (c.args.end - c.args.first) _ c.div_ceil.ensures width.ensures.power width.ensures.lower_bound width.ensures.upper_bound in (
-      (λ _. passing_node _ _ _ _ least (record {
+    let least = least_of _ (c.args.end - c.args.first) _ c.div_ceil.ensures width.ensures.power width.ensures.lower_bound width.ensures.upper_bound in
+    ((λ filled. passing_node _ _ _ _ least (record {
         filled = c.if-first-end.false;
         within = c.if-end-size.false;
         whole = c.if-first-ne0.false;
         placed = c.if-first-width-ne0.false;
-        ends = inl c.if-end-size-2.true;
+        ends = c.is_filled.ensures.0 filled;
       })),
-      λ _. eq-eqb _ _ c.if-end-size-2.true,
-    )
-
-pub returns-else-end-size-2-clause-node : goal.returns-else-end-size-2-clause-node
-returns-else-end-size-2-clause-node c =
-    let width = c.next_power_of_two-width in
-    let least = least_of _ (c.args.end - c.args.first) _ c.div_ceil.ensures width.ensures.power width.ensures.lower_bound width.ensures.upper_bound in (
-      (λ same. passing_node _ _ _ _ least (record {
-        filled = c.if-first-end.false;
-        within = c.if-end-size.false;
-        whole = c.if-first-ne0.false;
-        placed = c.if-first-width-ne0.false;
-        ends = inr (eqb-true _ _ same);
-      })),
-      λ node.
-          let passes = node_passes _ _ _ _ least node in
-          elim passes.ends [ inl is ↦ absurd (c.if-end-size-2.false is) | inr is ↦ eq-eqb _ _ is ],
-    )
+      λ node. c.is_filled.ensures.1 (node_passes _ _ _ _ least node).ends)

@@ -11,6 +11,6 @@ returns-clause-tree_hash c bytes long are =
     let node = c.if-not-is_node.ensures.node.0 refl in
     let bounds = node_bounds node in
     let part = leaves_between c.args.size c.args.first c.args.end bytes long bounds.2 bounds.0 bounds.1 (node_ends node) in
-    let range = ap (λ stop. take (stop - c.args.first / mib) (drop (c.args.first / mib) c.args.leaves.now)) c.div_ceil-stop.ensures
-    ∙ ap (λ leaves. take (div_ceil c.args.end mib - c.args.first / mib) (drop (c.args.first / mib) leaves)) are ∙ part in
+    let range = c.leaves_between.ensures
+      ∙ ap (λ leaves. take (div_ceil c.args.end mib - c.args.first / mib) (drop (c.args.first / mib) leaves)) are ∙ part in
     rw (c.root_of.ensures.tree_hash _ range) refl
