@@ -1,5 +1,5 @@
 -- The nodes of the tree over n bytes, as stretches of bytes.
-use Rattle.std.specs.Prelude.{ℕ, ◌-◌, ◌<◌, ◌≤◌}
+use Rattle.std.specs.Prelude.{ℕ, ◌-◌, ◌≤◌}
 use Rattle.glacier_treehash.specs.Tree.{mib, IsSplit}
 
 -- the bytes from a to before z are a node: the root, or a node of the part before or behind the cut

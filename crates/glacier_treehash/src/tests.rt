@@ -1,8 +1,8 @@
 ghost use Rattle.std.specs.Prelude.{◌*◌, ◌<◌, ◌≤◌, ◌^◌, length};
 
 use crate::{
-    Gate, Linear, MIB, Open, TreeHasher, hash_leaves, hash_piece, is_node, range_hash, root_of,
-    tree_hash, tree_hash_forked,
+    Gate, Linear, MIB, Open, TreeHasher, hash_piece, is_node, range_hash, root_of, tree_hash,
+    tree_hash_forked,
 };
 use glacier_base::Digest;
 use std::alloc::{AllocError, Global};
@@ -78,13 +78,13 @@ fn fed(bytes: &[u8], firsts: &[usize], size: usize) -> Digest
     hasher.finish()
 }
 
-// The tree hash of bytes whose whole leaves are handed over as digests, the first alone.
+// The tree hash of bytes whose whole leaves are handed over as digests.
 fn from_leaves(leaves: &[Digest]) -> Digest
     requires some { 0 < length leaves.now }
     requires fits { length leaves.now * MIB ≤ 2 ^ 63 }
 {
     let mut hasher = TreeHasher::new();
-    hasher.add_leaf(&leaves[0]);
+    hasher.feed_leaves(&leaves[..1]);
     hasher.feed_leaves(&leaves[1..]);
     hasher.finish()
 }
@@ -167,7 +167,9 @@ fn leaves_and_what_is_made_of_them(rt: HostRuntime) -> Result<(), Fail> {
     let bytes = counted(rt.alloc(), 5 * MIB)?;
     assert_eq!(rt; bytes.len(), 5 * MIB);
     let mut leaves = [Digest([0; 32]); 5];
-    hash_leaves(&rt, &bytes, &mut leaves, 2, &Open);
+    let mut hasher = TreeHasher::new();
+    hasher.feed_forked(&rt, &bytes, &mut leaves, 2, &Open);
+    assert_eq!(rt; hasher.finish().text().as_slice(), OF_5_MIB.as_bytes());
     let root = root_of(&leaves).ok_or("no root")?;
     assert_eq!(rt; root.text().as_slice(), OF_5_MIB.as_bytes());
     assert!(rt; root_of(&[]).is_none());
@@ -180,7 +182,7 @@ fn nodes_of_5_mib(rt: HostRuntime) -> Result<(), Fail> {
     let bytes = counted(rt.alloc(), 5 * MIB)?;
     assert_eq!(rt; bytes.len(), 5 * MIB);
     let mut leaves = [Digest([0; 32]); 5];
-    hash_leaves(&rt, &bytes, &mut leaves, 1, &Open);
+    hash_piece(&rt, &bytes, &mut Linear::new(), &mut leaves, 1, &Open);
     let size = 5 << 20;
     let nodes = [
         (0, 4 << 20, OF_FIRST_4),

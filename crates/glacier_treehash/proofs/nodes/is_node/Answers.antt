@@ -1,8 +1,6 @@
-use Rattle.std.proofs.Common.{◌≡◌, ◌⊎◌, ◌-◌, ◌/◌, ◌%◌, ◌≤◌, ◌<◌, inl, inr, arith}
-use Rattle.std.proofs.lemmas.Bool.{eqb-true, eq-eqb}
-use Rattle.glacier_treehash.specs.Tree.{mib}
+use Rattle.std.proofs.Common.{◌-◌, arith}
 use Rattle.glacier_treehash.proofs.Stretches.{node_bounds}
-use Rattle.glacier_treehash.proofs.Widths.{IsLeast, Passes, least_of, passing_node, node_passes}
+use Rattle.glacier_treehash.proofs.Widths.{least_of, passing_node, node_passes}
 use Rattle.glacier_treehash.proofs.nodes.is_node.Goals as goal
 use Rattle.glacier_treehash.proofs.nodes.is_node.Goals.{then-first-end-via-then-first-end, then-first-end-via-else-first-end+then-end-size, then-first-end-via-else-first-end+else-end-size+then-first-ne0}
 
@@ -31,12 +29,13 @@ returns-then-first-width-ne0-clause-node c = (
 pub returns-clause-node : goal.returns-clause-node
 returns-clause-node c =
     let width = c.next_power_of_two-width in
-    let least = least_of _ (c.args.end - c.args.first) _ c.div_ceil.ensures width.ensures.power width.ensures.lower_bound width.ensures.upper_bound in
-    ((λ filled. passing_node _ _ _ _ least (record {
+    let least = least_of _ (c.args.end - c.args.first) _ c.div_ceil.ensures width.ensures.power width.ensures.lower_bound width.ensures.upper_bound in (
+      (λ filled. passing_node _ _ _ _ least (record {
         filled = c.if-first-end.false;
         within = c.if-end-size.false;
         whole = c.if-first-ne0.false;
         placed = c.if-first-width-ne0.false;
         ends = c.is_filled.ensures.0 filled;
       })),
-      λ node. c.is_filled.ensures.1 (node_passes _ _ _ _ least node).ends)
+      λ node. c.is_filled.ensures.1 (node_passes _ _ _ _ least node).ends,
+    )
