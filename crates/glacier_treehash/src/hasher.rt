@@ -5,11 +5,14 @@ ghost use Rattle.glacier_treehash.specs.Leaves.{leaves_from};
 ghost use Rattle.glacier_treehash.specs.Roots.{AreRoots};
 ghost use Rattle.glacier_treehash.specs.Tree.{mib, tree_hash_of};
 
+use crate::forked::Gate;
 use crate::linear::Linear;
+use crate::piece::fill;
 use crate::roots::{add_root, join_roots};
 use crate::tree::MIB;
 use glacier_base::Digest;
 use std::mem;
+use std::thread::Threads;
 
 // The sizes of full trees within 2^63 bytes: 1 to 2^43 leaves.
 const SIZES: usize = 44;
@@ -80,8 +83,8 @@ impl TreeHasher {
         self.filled = 0;
     }
 
-    /// Takes in a whole leaf by its digest, where no leaf is begun.
-    pub fn add_leaf(&mut self, leaf: &Digest)
+    // Takes in a whole leaf by its digest, where no leaf is begun.
+    fn add_leaf(&mut self, leaf: &Digest)
         requires begins { fed_length self.old % MIB ≡ 0 }
         requires room { fed_length self.old + MIB ≤ 2 ^ 63 }
         ensures length { fed_length self.new ≡ fed_length self.old + MIB }
@@ -103,6 +106,27 @@ impl TreeHasher {
         for leaf in leaves {
             self.add_leaf(leaf);
         }
+    }
+
+    /// Takes in whole leaves as `feed` does, where no leaf is begun. It has room for their digests in `leaves`; a stretch
+    /// of more than `grain` leaves is cut in two for two workers.
+    pub fn feed_forked<R: Threads + Sync, G: Gate + Sync>(
+        &mut self,
+        rt: &R,
+        bytes: &[u8],
+        leaves: &mut [Digest],
+        grain: u32,
+        gate: &G,
+    )
+        requires begins { fed_length self.old % MIB ≡ 0 }
+        requires room { fed_length self.old + length bytes.now ≤ 2 ^ 63 }
+        requires whole { length bytes.now ≡ length leaves.old * MIB }
+        requires grain { 1 ≤ grain }
+        ensures length { fed_length self.new ≡ fed_length self.old + length bytes.now }
+        ensures taken { (message : List ℕ) → HasTaken self.old message → HasTaken self.new (message ++ bytes.now) }
+    {
+        fill(rt, bytes, leaves, self.leaves, grain, gate);
+        self.feed_leaves(leaves);
     }
 
     /// The tree hash of all that it was fed.

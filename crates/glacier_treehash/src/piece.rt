@@ -12,6 +12,7 @@ use glacier_base::Digest;
 use std::thread::{Threads, join_mut};
 
 // Fills the digests of the leaves, one after another.
+#[tactic(auto, using(crate::proofs::LeavesLemmas::one_after_another))]
 fn fill_here<G: Gate>(bytes: &[u8], leaves: &mut [Digest], first: u64, gate: &G)
     requires size { first * MIB + length bytes.now ≤ 2 ^ 63 }
     requires low { length bytes.now ≤ length leaves.old * MIB }
@@ -28,7 +29,8 @@ fn fill_here<G: Gate>(bytes: &[u8], leaves: &mut [Digest], first: u64, gate: &G)
 
 // Fills the digests of the leaves, more than `grain` of them by halves.
 #[cycle(fills)]
-fn fill<R: Threads + Sync, G: Gate + Sync>(
+#[tactic(auto, using(crate::proofs::LeavesLemmas::halves_joined))]
+pub(crate) fn fill<R: Threads + Sync, G: Gate + Sync>(
     rt: &R,
     bytes: &[u8],
     leaves: &mut [Digest],
@@ -65,24 +67,8 @@ fn fill<R: Threads + Sync, G: Gate + Sync>(
     );
 }
 
-/// Fills the digests of the bytes' leaves. A stretch of more than `grain` leaves is cut in two for two workers.
-pub fn hash_leaves<R: Threads + Sync, G: Gate + Sync>(
-    rt: &R,
-    bytes: &[u8],
-    leaves: &mut [Digest],
-    grain: u32,
-    gate: &G,
-)
-    requires size { length bytes.now ≤ 2 ^ 63 }
-    requires filled { 0 < length bytes.now }
-    requires room { length leaves.old ≡ div_ceil (length bytes.now) MIB }
-    requires grain { 1 ≤ grain }
-    ensures { leaves.new ≡ leaves_of bytes.now }
-{
-    fill(rt, bytes, leaves, 0, grain, gate);
-}
-
-/// Fills the digests of a piece's leaves as `hash_leaves` does, and feeds the piece to a running SHA-256 meanwhile.
+/// Fills the digests of a piece's leaves, and feeds the piece to a running SHA-256 meanwhile. A stretch of more than
+/// `grain` leaves is cut in two for two workers.
 pub fn hash_piece<R: Threads + Sync, G: Gate + Sync>(
     rt: &R,
     bytes: &[u8],
@@ -107,6 +93,6 @@ pub fn hash_piece<R: Threads + Sync, G: Gate + Sync>(
             requires { IsSync R.row × IsSync G.row × (length bytes.now ≤ 2 ^ 63) × (0 < length bytes.now)
                 × (length leaves.now ≡ div_ceil (length bytes.now) MIB) × (1 ≤ grain) }
             ensures { leaves.exit.now ≡ leaves_of bytes.entry.now }
-        { hash_leaves(rt, bytes, leaves, grain, gate) },
+        { fill(rt, bytes, leaves, 0, grain, gate) },
     );
 }

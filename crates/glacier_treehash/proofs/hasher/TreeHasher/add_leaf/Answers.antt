@@ -1,4 +1,4 @@
-use Rattle.std.proofs.Common.{◌≡◌, ◌++◌, [], length, sym, ◌∙◌, arith}
+use Rattle.std.proofs.Common.{◌≡◌, ◌++◌, [], sym, ◌∙◌, arith}
 use Rattle.std.proofs.lemmas.List.{nil_from_length}
 use Rattle.glacier_treehash.specs.Tree.{mib, tree_hash_of}
 use Rattle.glacier_treehash.proofs.TreeLemmas.{tree_hash_of-leaf}
