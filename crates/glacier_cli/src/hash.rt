@@ -9,7 +9,7 @@ ghost use Rattle.glacier_cli.specs.Runs.{StandsFor};
 
 use crate::ending::Ending;
 use glacier_base::{Digest, Failed, Files, Memory};
-use glacier_treehash::{MIB, Open, TreeHasher, hash_leaves};
+use glacier_treehash::{MIB, Open, TreeHasher};
 use std::alloc::Global;
 use std::thread::Threads;
 
@@ -43,24 +43,6 @@ fn fill<F: Files>(files: &mut F, buffer: &mut [u8]) -> Result<usize, Failed>
     Ok(filled)
 }
 
-// Feeds whole leaves, which are hashed by several workers.
-fn feed_leaves<R: Threads + Sync>(rt: &R, hasher: &mut TreeHasher, bytes: &[u8])
-    requires begins { fed_length hasher.old % MIB ≡ 0 }
-    requires whole { length bytes.now % MIB ≡ 0 }
-    requires few { length bytes.now ≤ LEAVES * MIB }
-    requires room { fed_length hasher.old + length bytes.now ≤ 2 ^ 63 }
-    ensures length { fed_length hasher.new ≡ fed_length hasher.old + length bytes.now }
-    ensures taken { (message : List ℕ) → HasTaken hasher.old message → HasTaken hasher.new (message ++ bytes.now) }
-{
-    if bytes.is_empty() {
-        return;
-    }
-    let mut digests = [Digest([0; 32]); LEAVES];
-    let leaves = &mut digests[..bytes.len() / MIB];
-    hash_leaves(rt, bytes, leaves, GRAIN, &Open);
-    hasher.feed_leaves(leaves);
-}
-
 // Feeds bytes, of which the leaves are hashed by several workers.
 fn feed_forked<R: Threads + Sync>(rt: &R, hasher: &mut TreeHasher, bytes: &[u8])
     requires begins { fed_length hasher.old % MIB ≡ 0 }
@@ -69,8 +51,10 @@ fn feed_forked<R: Threads + Sync>(rt: &R, hasher: &mut TreeHasher, bytes: &[u8])
     ensures length { fed_length hasher.new ≡ fed_length hasher.old + length bytes.now }
     ensures taken { (message : List ℕ) → HasTaken hasher.old message → HasTaken hasher.new (message ++ bytes.now) }
 {
-    let (leaves, tail) = bytes.split_at(bytes.len() / MIB * MIB);
-    feed_leaves(rt, hasher, leaves);
+    let count = bytes.len() / MIB;
+    let (whole, tail) = bytes.split_at(count * MIB);
+    let mut leaves = [Digest([0; 32]); LEAVES];
+    hasher.feed_forked(rt, whole, &mut leaves[..count], GRAIN, &Open);
     hasher.feed(tail);
 }
 

@@ -53,17 +53,16 @@ fn the_tree_hash_is_printed(rt: HostRuntime) -> Result<(), Fail> {
             counting(alloc, 5_242_880)?,
             "1eccd0ca741241ce114bde6d24a8de044ccee139ef6651bec9006d2f558751ef\n",
         ),
-        (
-            counting(alloc, 17_825_797)?,
-            "e13ce5185fa5648eaae46730a699772e2fa5e4e909a044876b21d4af10e37fa5\n",
-        ),
     ];
     for (bytes, want) in &rows {
         let mut files = MemFiles::new(alloc, Text::of(alloc, bytes)?, List::new(alloc));
         files.add("x", bytes)?;
         for line in ["hash x", "hash"] {
             let mut out = MemSink::new(alloc, List::new(alloc));
-            assert_eq!(rt; run(&rt, alloc, &words(alloc, line)?, &mut files, &mut out), 0);
+            assert_eq!(rt;
+                run(&rt, alloc, &words(alloc, line)?, &mut files, &mut out),
+                0
+            );
             assert_eq!(rt; out.written(), want.as_bytes());
         }
     }
@@ -88,7 +87,11 @@ fn each_fault_has_its_status_and_line(rt: HostRuntime) -> Result<(), Fail> {
         let mut files = MemFiles::new(alloc, Text::new(alloc), failing(alloc, files_fail)?);
         files.add("x", b"abc")?;
         let mut out = MemSink::new(alloc, failing(alloc, sink_fails)?);
-        assert_eq!(rt; run(&rt, alloc, &words(alloc, line)?, &mut files, &mut out), status, "{line}");
+        assert_eq!(rt;
+            run(&rt, alloc, &words(alloc, line)?, &mut files, &mut out),
+            status,
+            "{line}"
+        );
         assert_eq!(rt; out.written(), want.as_bytes(), "{line}");
     }
     Ok(())
