@@ -1,5 +1,5 @@
 // The tree hash of bytes that come in pieces.
-ghost use Rattle.std.specs.Prelude.{◌≡◌, ◌+◌, ◌*◌, ◌%◌, ◌<◌, ◌≤◌, ◌^◌, ◌++◌, [], ℕ, List, length};
+ghost use Rattle.std.specs.Prelude.{◌≡◌, ◌+◌, ◌*◌, ◌%◌, ◌<◌, ◌≤◌, ◌^◌, [], ℕ, List, length};
 ghost use Rattle.sha2.specs.Sha256.{sha256};
 ghost use Rattle.glacier_treehash.specs.Leaves.{leaves_from};
 ghost use Rattle.glacier_treehash.specs.Roots.{AreRoots};
@@ -17,7 +17,7 @@ use std::thread::Threads;
 // The sizes of full trees within 2^63 bytes: 1 to 2^43 leaves.
 const SIZES: usize = 44;
 
-/// A running tree hash. It keeps at most one root for each size of a full tree, and the last leaf as far as it came.
+/// A running tree hash: at most one root for each size of a full tree, and the last leaf as far as it came.
 #[derive(Drop)]
 pub struct TreeHasher {
     roots: [Digest; SIZES],
@@ -35,7 +35,7 @@ fn no_roots() -> [Digest; SIZES]
 }
 
 impl TreeHasher {
-    ghost use Rattle.glacier_treehash.specs.Hasher.{HasTaken, fed_length};
+    ghost use Rattle.glacier_treehash.specs.Hasher.{HasTaken, Takes, fed_length};
 
     /// One that was fed nothing.
     pub fn new() -> Self
@@ -54,7 +54,7 @@ impl TreeHasher {
     pub fn feed(&mut self, bytes: &[u8])
         requires { fed_length self.old + length bytes.now ≤ 2 ^ 63 }
         ensures length { fed_length self.new ≡ fed_length self.old + length bytes.now }
-        ensures taken { (message : List ℕ) → HasTaken self.old message → HasTaken self.new (message ++ bytes.now) }
+        ensures taken { Takes self.old self.new bytes.now }
     {
         let mut start = 0;
         while start < bytes.len() {
@@ -69,7 +69,7 @@ impl TreeHasher {
         requires fits { self.old.filled + length bytes.now ≤ MIB }
         requires room { fed_length self.old + length bytes.now ≤ 2 ^ 63 }
         ensures length { fed_length self.new ≡ fed_length self.old + length bytes.now }
-        ensures taken { (message : List ℕ) → HasTaken self.old message → HasTaken self.new (message ++ bytes.now) }
+        ensures taken { Takes self.old self.new bytes.now }
     {
         self.partial.feed(bytes);
         let filled = self.filled + bytes.len();
@@ -88,8 +88,8 @@ impl TreeHasher {
         requires begins { fed_length self.old % MIB ≡ 0 }
         requires room { fed_length self.old + MIB ≤ 2 ^ 63 }
         ensures length { fed_length self.new ≡ fed_length self.old + MIB }
-        ensures taken { (message bytes : List ℕ) → HasTaken self.old message → length bytes ≡ MIB →
-            leaf.now ≡ sha256 bytes → HasTaken self.new (message ++ bytes) }
+        ensures taken { (bytes : List ℕ) → length bytes ≡ MIB → leaf.now ≡ sha256 bytes →
+            Takes self.old self.new bytes }
     {
         add_root(&mut self.roots, self.leaves, *leaf);
         self.leaves += 1;
@@ -100,16 +100,16 @@ impl TreeHasher {
         requires begins { fed_length self.old % MIB ≡ 0 }
         requires room { fed_length self.old + length leaves.now * MIB ≤ 2 ^ 63 }
         ensures length { fed_length self.new ≡ fed_length self.old + length leaves.now * MIB }
-        ensures taken { (message bytes : List ℕ) → HasTaken self.old message → length bytes ≡ length leaves.now * MIB →
-            leaves.now ≡ leaves_from (length leaves.now) bytes → HasTaken self.new (message ++ bytes) }
+        ensures taken { (bytes : List ℕ) → length bytes ≡ length leaves.now * MIB →
+            leaves.now ≡ leaves_from (length leaves.now) bytes → Takes self.old self.new bytes }
     {
         for leaf in leaves {
             self.add_leaf(leaf);
         }
     }
 
-    /// Takes in whole leaves as `feed` does, where no leaf is begun. It has room for their digests in `leaves`; a stretch
-    /// of more than `grain` leaves is cut in two for two workers.
+    /// Takes in whole leaves as `feed` does, where no leaf is begun: `leaves` is room for their digests, and a
+    /// stretch of more than `grain` leaves is cut in two for two workers.
     pub fn feed_forked<R: Threads + Sync, G: Gate + Sync>(
         &mut self,
         rt: &R,
@@ -123,7 +123,7 @@ impl TreeHasher {
         requires whole { length bytes.now ≡ length leaves.old * MIB }
         requires grain { 1 ≤ grain }
         ensures length { fed_length self.new ≡ fed_length self.old + length bytes.now }
-        ensures taken { (message : List ℕ) → HasTaken self.old message → HasTaken self.new (message ++ bytes.now) }
+        ensures taken { Takes self.old self.new bytes.now }
     {
         fill(rt, bytes, leaves, self.leaves, grain, gate);
         self.feed_leaves(leaves);

@@ -3,7 +3,7 @@ ghost use Rattle.std.specs.Prelude.{◌≡◌, ◌+◌, ◌*◌, ◌<◌, ◌≤
 ghost use Rattle.std.specs.Int.{div_ceil};
 ghost use Rattle.std.specs.Thread.{IsSync};
 ghost use Rattle.glacier_treehash.specs.Leaves.{leaves_from, leaves_of};
-ghost use Rattle.glacier_treehash.specs.Linear.{HasFed};
+ghost use Rattle.glacier_treehash.specs.Linear.{Feeds};
 
 use crate::forked::Gate;
 use crate::linear::Linear;
@@ -56,19 +56,21 @@ pub(crate) fn fill<R: Threads + Sync, G: Gate + Sync>(
         rt,
         &mut ||
             requires { IsSync R.row × IsSync G.row × (first * MIB + length left.now ≤ 2 ^ 63)
-                × (length left.now ≤ length front.now * MIB) × (length front.now * MIB < length left.now + MIB) × (1 ≤ grain) }
+                × (length left.now ≤ length front.now * MIB)
+                × (length front.now * MIB < length left.now + MIB) × (1 ≤ grain) }
             ensures { front.exit.now ≡ leaves_from (length front.entry.now) left.entry.now }
         { fill(rt, left, front, first, grain, gate) },
         &mut ||
             requires { IsSync R.row × IsSync G.row × (middle * MIB + length right.now ≤ 2 ^ 63)
-                × (length right.now ≤ length back.now * MIB) × (length back.now * MIB < length right.now + MIB) × (1 ≤ grain) }
+                × (length right.now ≤ length back.now * MIB)
+                × (length back.now * MIB < length right.now + MIB) × (1 ≤ grain) }
             ensures { back.exit.now ≡ leaves_from (length back.entry.now) right.entry.now }
         { fill(rt, right, back, middle, grain, gate) },
     );
 }
 
-/// Fills the digests of a piece's leaves, and feeds the piece to a running SHA-256 meanwhile. A stretch of more than
-/// `grain` leaves is cut in two for two workers.
+/// Fills the digests of a piece's leaves, and feeds the piece to a running SHA-256 meanwhile. A stretch of more
+/// than `grain` leaves is cut in two for two workers.
 pub fn hash_piece<R: Threads + Sync, G: Gate + Sync>(
     rt: &R,
     bytes: &[u8],
@@ -82,12 +84,12 @@ pub fn hash_piece<R: Threads + Sync, G: Gate + Sync>(
     requires room { length leaves.old ≡ div_ceil (length bytes.now) MIB }
     requires grain { 1 ≤ grain }
     ensures leaves { leaves.new ≡ leaves_of bytes.now }
-    ensures linear { (message : List ℕ) → HasFed linear.old message → HasFed linear.new (message ++ bytes.now) }
+    ensures linear { Feeds linear.old linear.new bytes.now }
 {
     join_mut(
         rt,
         &mut ||
-            ensures { (message : List ℕ) → HasFed linear.entry.now message → HasFed linear.exit.now (message ++ bytes.entry.now) }
+            ensures { Feeds linear.entry.now linear.exit.now bytes.entry.now }
         { linear.feed(bytes) },
         &mut ||
             requires { IsSync R.row × IsSync G.row × (length bytes.now ≤ 2 ^ 63) × (0 < length bytes.now)
