@@ -3,7 +3,7 @@ ghost use Rattle.std.specs.Prelude.{◌≡◌, ◌<◌, ◌≤◌, ◌+◌, ◌*
 ghost use Rattle.glacier_base.specs.Outside.{HasCause, HasRisen};
 ghost use Rattle.glacier_base.specs.declared.files.TheConstants.{MOST_READ};
 ghost use Rattle.glacier_treehash.specs.Tree.{tree_hash_of};
-ghost use Rattle.glacier_treehash.specs.Hasher.{HasTaken, fed_length};
+ghost use Rattle.glacier_treehash.specs.Hasher.{Takes, fed_length};
 ghost use Rattle.glacier_cli.specs.Forms.{hash as hash_form};
 ghost use Rattle.glacier_cli.specs.Runs.{StandsFor};
 
@@ -49,7 +49,7 @@ fn feed_forked<R: Threads + Sync>(rt: &R, hasher: &mut TreeHasher, bytes: &[u8])
     requires few { length bytes.now ≤ LEAVES * MIB }
     requires room { fed_length hasher.old + length bytes.now ≤ 2 ^ 63 }
     ensures length { fed_length hasher.new ≡ fed_length hasher.old + length bytes.now }
-    ensures taken { (message : List ℕ) → HasTaken hasher.old message → HasTaken hasher.new (message ++ bytes.now) }
+    ensures taken { Takes hasher.old hasher.new bytes.now }
 {
     let count = bytes.len() / MIB;
     let (whole, tail) = bytes.split_at(count * MIB);
