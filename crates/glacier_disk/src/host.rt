@@ -3,6 +3,7 @@ ghost use Rattle.std.specs.Prelude.{◌≡◌, false, is_some};
 ghost use Rattle.glacier_base.specs.Outside.{HasCause};
 
 use crate::folder::Folder;
+use crate::{Disk, Station};
 use glacier_base::Failed;
 use std::alloc::Global;
 use std::fs::File;
@@ -25,10 +26,11 @@ pub struct HostStation<R: Files<File = File> + Net + Clock + Drop> {
 }
 
 impl<R: Files<File = File> + Net + Clock + Drop> HostStation<R> {
+    /// A station that has opened nothing yet. It keeps the runtime and the allocator.
     pub fn new(rt: R, alloc: Global) -> HostStation<R>
-        ensures folder { is_some result.folder ≡ false }
-        ensures listener { is_some result.listener ≡ false }
-        ensures stream { is_some result.stream ≡ false }
+        ensures closed { ⟦<HostStation<R> as Disk>⟧.is_open result ≡ false }
+        ensures deaf { ⟦<HostStation<R> as Station>⟧.is_listening result ≡ false }
+        ensures free { ⟦<HostStation<R> as Station>⟧.is_connected result ≡ false }
     {
         HostStation {
             rt,

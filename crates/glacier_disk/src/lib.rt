@@ -11,11 +11,15 @@ mod host;
 mod host_disk;
 mod host_station;
 mod host_stream;
+#[cfg(test)]
+mod host_tests;
 mod line;
 mod mem_clock;
 mod memory;
 mod memory_disk;
 mod memory_station;
+#[cfg(test)]
+mod memory_tests;
 mod notes;
 mod readings;
 mod record;

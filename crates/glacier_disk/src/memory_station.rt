@@ -1,9 +1,13 @@
 // The network and the clock of a station in memory.
-ghost use Rattle.std.specs.Prelude.{◌≡◌, length, is_some};
+ghost use Rattle.std.specs.Prelude.{◌≡◌, ◌++◌, [], ◌∷◌, length, drop, is_some};
 ghost use Rattle.std.proofs.Common.{ap, ◌∙◌};
+ghost use Rattle.glacier_disk.specs.Calls.{RestsWith, SameDisk};
+ghost use Rattle.glacier_disk.specs.Memory.{inputs_of, readings_of, readings_to_come, connections_of, addresses_of, folders_of, plan_of, disk_faults_of, accept_faults_of, receive_faults_of, send_faults_of, is_open, is_listening, is_connected};
+ghost use Rattle.glacier_disk.specs.Network.{AllSent};
+ghost use Rattle.glacier_disk.specs.Readings.{next_reading};
 
 use crate::memory::{piece_at, push_name};
-use crate::{MemStation, Station};
+use crate::{Disk, MemStation, Station};
 use glacier_base::{Failed, Moment};
 
 impl Station for MemStation {
@@ -115,7 +119,19 @@ impl Station for MemStation {
         self.tape.hang_up();
     }
 
-    fn now(&mut self) -> Moment {
+    fn now(&mut self) -> Moment
+        // The next of the plan, or the last again.
+        ensures planned { result ≡ next_reading (readings_of self.old) (readings_to_come self.old) }
+        ensures to_come { readings_to_come self.new ≡ drop 1 (readings_to_come self.old) }
+        ensures inputs { inputs_of self.new ≡ inputs_of self.old }
+
+        ensures reading { readings_of self.new ≡ readings_of self.old ++ result ∷ [] }
+        ensures state { (is_listening self.new ≡ is_listening self.old) × (is_connected self.new ≡ is_connected self.old) }
+        ensures told { (addresses_of self.new ≡ addresses_of self.old) × (length (inputs_of self.new) ≡ length (inputs_of self.old)) × (connections_of self.new ≡ connections_of self.old) }
+        ensures faults { (accept_faults_of self.new ≡ accept_faults_of self.old) × (receive_faults_of self.new ≡ receive_faults_of self.old) × (send_faults_of self.new ≡ send_faults_of self.old) }
+        ensures disk { SameDisk is_open disk_faults_of folders_of plan_of self.old self.new }
+        ensures rests { RestsWith ⟦<MemStation as Disk>⟧.moment ⟦<MemStation as Disk>⟧.left ⟦<MemStation as Disk>⟧.leaves ⟦<MemStation as Disk>⟧.reads ⟦<MemStation as Station>⟧.left_with self.old self.new (AllSent (connections_of self.new)) }
+    {
         self.port.clock.now()
     }
 }
