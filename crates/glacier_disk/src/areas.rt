@@ -10,12 +10,7 @@ use crate::contents::Contents;
 use glacier_base::Memory;
 use std::alloc::Global;
 
-pub(crate) fn put_in(
-    now: &mut Contents,
-    area: Area,
-    at: u64,
-    bytes: &[u8],
-) -> Result<(), Memory>
+pub(crate) fn put_in(now: &mut Contents, area: Area, at: u64, bytes: &[u8]) -> Result<(), Memory>
     ensures ok { OnOk result (image_of now.new ≡ with_area area (put at bytes.now (image_of now.old area)) (image_of now.old)) }
     ensures err { OnErr result (image_of now.new ≡ image_of now.old) }
 {

@@ -11,6 +11,7 @@ const PATIENCE_SECONDS: u64 = 5;
 
 /// How long, and how many bytes, `drain` reads after the last byte was sent.
 const DRAIN_SECONDS: u64 = 1;
+
 const DRAIN_BYTES: usize = 1 << 20;
 
 pub(crate) fn bind<R: Net>(rt: &R, at: &str) -> Result<R::Listener, Failed> {

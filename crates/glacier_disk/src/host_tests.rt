@@ -9,7 +9,10 @@ use std::test::Fail;
 use std::{env, fs, process};
 
 // Reads past the end, writes past it, cuts and makes stable. What was read, and the sizes before and after the cut.
-fn write_and_cut<D: Disk>(disk: &mut D, folder: &str) -> Result<([u8; 4], [u8; 8], u64, u64), Failed>
+fn write_and_cut<D: Disk>(
+    disk: &mut D,
+    folder: &str,
+) -> Result<([u8; 4], [u8; 8], u64, u64), Failed>
     requires { D.is_open disk.old ≡ false }
 {
     let mut empty = [1u8; 4];
@@ -61,6 +64,20 @@ fn files_keep_what_was_written(rt: HostRuntime) -> Result<(), Fail> {
     Ok(())
 }
 
+// Takes bytes of the open connection until they fill this place, or none come.
+fn fill<S: Station>(station: &mut S, into: &mut [u8]) -> Result<(), Failed>
+    requires { S.is_connected station.old ≡ true }
+    ensures { S.is_connected station.new ≡ true }
+{
+    let mut count = 0usize;
+    for _ in 0..100 {
+        if count < into.len() {
+            count += station.receive(&mut into[count..])?;
+        }
+    }
+    Ok(())
+}
+
 // Serves one connection: takes five bytes, and answers.
 fn answer<S: Station>(station: &mut S) -> Result<[u8; 5], Failed>
     requires listening { S.is_listening station.old ≡ true }
@@ -70,13 +87,7 @@ fn answer<S: Station>(station: &mut S) -> Result<[u8; 5], Failed>
     if !station.accept()? {
         return Err(Failed);
     }
-    let mut count = 0usize;
-    for _ in 0..5 {
-        if count < 5 {
-            let more = station.receive(&mut taken[count..])?;
-            count = count.saturating_add(more).min(5);
-        }
-    }
+    fill(station, &mut taken)?;
     station.send(b"world")?;
     station.hang_up();
     let _ = station.now();
@@ -95,14 +106,8 @@ fn a_connection_that_waited_is_answered(rt: HostRuntime) -> Result<(), Fail> {
     client.shutdown(Shutdown::Write)?;
     let taken = answer(&mut station)?;
     assert_eq!(rt; taken.as_slice(), b"hello".as_slice());
-    let mut reply = [0u8; 6];
-    let mut count = 0usize;
-    for _ in 0..6 {
-        if count < 6 {
-            count = count.saturating_add(client.read(&mut reply[count..])?).min(6);
-        }
-    }
-    assert_eq!(rt; count, 5);
-    assert_eq!(rt; reply.as_slice(), b"world\0".as_slice());
+    let mut reply = Vec::new(rt.alloc());
+    client.read_to_end(&mut reply)?;
+    assert_eq!(rt; reply.as_slice(), b"world".as_slice());
     Ok(())
 }

@@ -1,10 +1,10 @@
 // Runs over a station in memory. What each leaves was worked out by hand from the rules of the disk.
 ghost use Rattle.std.specs.Prelude.{◌≡◌, ◌≤◌, false, true, length, OnOk};
+ghost use Rattle.glacier_disk.specs.Memory.{calls_of};
 
 use crate::{Area, Disk, MemPlan, MemStation, Station, Torn};
 use glacier_base::{Failed, List, Memory, Moment, Text};
 use std::alloc::Global;
-use std::process::Abort;
 use std::test::Fail;
 
 // One input of five bytes, four bytes in the left area, and these failures.
@@ -25,7 +25,7 @@ fn plan(alloc: Global, faults: &[u64]) -> Result<MemPlan, Memory> {
     })
 }
 
-// Nine calls, of which six change what a stop may leave.
+// Nine calls, of which seven change what a stop may leave.
 fn change<D: Disk>(disk: &mut D) -> Result<(), Failed>
     requires { D.is_open disk.old ≡ false }
 {
@@ -50,42 +50,118 @@ fn leaves(
     left: &str,
     blobs: &str,
 ) -> Result<bool, Memory>
-    requires { calls ≤ length (Rattle.glacier_disk.specs.Memory.calls_of station.now) }
+    requires { calls ≤ length (calls_of station.now) }
 {
     let areas = station.stopped(calls, torn)?;
-    let wanted = ["", left, "", blobs];
-    for (area, bytes) in areas.iter().zip(wanted) {
-        if area.bytes() != bytes.as_bytes() {
-            return Ok(false);
+    Ok(
+        areas[0].bytes().is_empty()
+            && areas[1].bytes() == left.as_bytes()
+            && areas[2].bytes().is_empty()
+            && areas[3].bytes() == blobs.as_bytes(),
+    )
+}
+
+// A stop after so many calls: Left and Blobs as last synced, as written, and with `#` for what isn't stable.
+#[derive(Drop)]
+struct Stop {
+    calls: u64,
+    left: [&'static str; 3],
+    blobs: [&'static str; 3],
+}
+
+fn agrees(station: &MemStation, stop: &Stop) -> Result<bool, Memory> {
+    if stop.calls > station.calls() {
+        return Ok(false);
+    }
+    if !leaves(station, stop.calls, Torn::Old, stop.left[0], stop.blobs[0])? {
+        return Ok(false);
+    }
+    if !leaves(station, stop.calls, Torn::New, stop.left[1], stop.blobs[1])? {
+        return Ok(false);
+    }
+    leaves(
+        station,
+        stop.calls,
+        Torn::Junk(b'#'),
+        stop.left[2],
+        stop.blobs[2],
+    )
+}
+
+const STOPS: [Stop; 10] = [
+    Stop {
+        calls: 0,
+        left: ["abcd", "abcd", "abcd"],
+        blobs: ["", "", ""],
+    },
+    Stop {
+        calls: 1,
+        left: ["abcd", "abcd", "abcd"],
+        blobs: ["", "", ""],
+    },
+    Stop {
+        calls: 2,
+        left: ["abcd", "abXY", "ab##"],
+        blobs: ["", "", ""],
+    },
+    Stop {
+        calls: 3,
+        left: ["abXY", "abXY", "abXY"],
+        blobs: ["", "", ""],
+    },
+    Stop {
+        calls: 4,
+        left: ["abXY", "abXY\0\0Z", "abXY###"],
+        blobs: ["", "", ""],
+    },
+    Stop {
+        calls: 5,
+        left: ["abXY", "abXY\0\0Z", "abXY###"],
+        blobs: ["", "", ""],
+    },
+    Stop {
+        calls: 6,
+        left: ["abXY", "abX", "abX"],
+        blobs: ["", "", ""],
+    },
+    Stop {
+        calls: 7,
+        left: ["abXY", "abX\0q", "abX##"],
+        blobs: ["", "", ""],
+    },
+    Stop {
+        calls: 8,
+        left: ["abXY", "abX\0q", "abX##"],
+        blobs: ["", "p", "#"],
+    },
+    Stop {
+        calls: 9,
+        left: ["abX\0q", "abX\0q", "abX\0q"],
+        blobs: ["p", "p", "p"],
+    },
+];
+
+// The first of these stops that leaves something else.
+fn first_wrong(station: &MemStation, stops: &[Stop]) -> Result<Option<u64>, Memory> {
+    for stop in stops {
+        if !agrees(station, stop)? {
+            return Ok(Some(stop.calls));
         }
     }
-    Ok(true)
+    Ok(None)
+}
+
+fn changed(alloc: Global) -> Result<MemStation, Fail> {
+    let mut station = MemStation::new(alloc, plan(alloc, &[])?)?;
+    change(&mut station)?;
+    Ok(station)
 }
 
 #[test]
 fn a_stop_leaves_what_no_sync_covers(rt: HostRuntime) -> Result<(), Fail> {
-    let mut station = MemStation::new(rt.alloc(), plan(rt.alloc(), &[])?)?;
-    change(&mut station)?;
+    let station = changed(rt.alloc())?;
     assert_eq!(rt; station.calls(), 9);
-    // After each call: Left as it was last synced, as written, and with `#` for what isn't stable; then Blobs so.
-    let rows = [
-        (0, ["abcd", "abcd", "abcd"], ["", "", ""]),
-        (1, ["abcd", "abcd", "abcd"], ["", "", ""]),
-        (2, ["abcd", "abXY", "ab##"], ["", "", ""]),
-        (3, ["abXY", "abXY", "abXY"], ["", "", ""]),
-        (4, ["abXY", "abXY\0\0Z", "abXY###"], ["", "", ""]),
-        (5, ["abXY", "abXY\0\0Z", "abXY###"], ["", "", ""]),
-        (6, ["abXY", "abX", "abX"], ["", "", ""]),
-        (7, ["abXY", "abX\0q", "abX##"], ["", "", ""]),
-        (8, ["abXY", "abX\0q", "abX##"], ["", "p", "#"]),
-        (9, ["abX\0q", "abX\0q", "abX\0q"], ["p", "p", "p"]),
-    ];
-    for (calls, left, blobs) in rows {
-        assert!(rt; calls <= station.calls());
-        assert!(rt; leaves(&station, calls, Torn::Old, left[0], blobs[0])?, "old after {calls}");
-        assert!(rt; leaves(&station, calls, Torn::New, left[1], blobs[1])?, "new after {calls}");
-        assert!(rt; leaves(&station, calls, Torn::Junk(b'#'), left[2], blobs[2])?, "junk after {calls}");
-    }
+    assert_eq!(rt; first_wrong(&station, &STOPS)?, None);
     Ok(())
 }
 
@@ -115,33 +191,66 @@ fn call_each<S: Station>(station: &mut S) -> Result<(), Failed>
     Ok(())
 }
 
+// Calls each once, where the call with this number is to fail; and whether one failed.
+fn called(alloc: Global, number: u64) -> Result<(MemStation, bool), Memory> {
+    let mut station = MemStation::new(alloc, plan(alloc, &[number])?)?;
+    let failed = call_each(&mut station).is_err();
+    Ok((station, failed))
+}
+
+// The call that fails; the count of faults that rises; Left and all bytes sent.
+#[derive(Drop)]
+struct Fault {
+    number: u64,
+    counts: [u64; 4],
+    left: &'static str,
+    sent: &'static str,
+}
+
+// Whether that call and no other fails, and changes nothing.
+fn fails(alloc: Global, fault: &Fault) -> Result<bool, Memory> {
+    let (station, failed) = called(alloc, fault.number)?;
+    let counts = [
+        station.disk_faults,
+        station.port.accept_faults,
+        station.port.receive_faults,
+        station.port.send_faults,
+    ];
+    Ok(
+        failed == (fault.number < 10)
+            && station.calls() == fault.number.saturating_add(1).min(10)
+            && counts == fault.counts
+            && station.area(Area::Left) == fault.left.as_bytes()
+            && station.sent() == fault.sent.as_bytes(),
+    )
+}
+
+fn planned(number: u64, counts: [u64; 4], left: &'static str, sent: &'static str) -> Fault {
+    Fault {
+        number,
+        counts,
+        left,
+        sent,
+    }
+}
+
 #[test]
 fn a_planned_call_fails(rt: HostRuntime) -> Result<(), Fail> {
-    // The call that fails; the counts of the disk, of accepts, receives and sends; Left and all bytes sent.
-    let rows = [
-        (0, [1, 0, 0, 0], "abcd", ""),
-        (1, [0, 1, 0, 0], "abcd", ""),
-        (2, [0, 1, 0, 0], "abcd", ""),
-        (3, [0, 0, 1, 0], "abcd", ""),
-        (4, [1, 0, 0, 0], "abcd", ""),
-        (5, [1, 0, 0, 0], "xbcd", ""),
-        (6, [1, 0, 0, 0], "xbcd", ""),
-        (7, [1, 0, 0, 0], "xbcd", ""),
-        (8, [1, 0, 0, 0], "x", ""),
-        (9, [0, 0, 0, 1], "x", ""),
-        (10, [0, 0, 0, 0], "x", "y"),
+    let faults = [
+        planned(0, [1, 0, 0, 0], "abcd", ""),
+        planned(1, [0, 1, 0, 0], "abcd", ""),
+        planned(2, [0, 1, 0, 0], "abcd", ""),
+        planned(3, [0, 0, 1, 0], "abcd", ""),
+        planned(4, [1, 0, 0, 0], "abcd", ""),
+        planned(5, [1, 0, 0, 0], "xbcd", ""),
+        planned(6, [1, 0, 0, 0], "xbcd", ""),
+        planned(7, [1, 0, 0, 0], "xbcd", ""),
+        planned(8, [1, 0, 0, 0], "x", ""),
+        planned(9, [0, 0, 0, 1], "x", ""),
+        planned(10, [0, 0, 0, 0], "x", "y"),
     ];
-    for (number, counts, left, sent) in rows {
-        let mut station = MemStation::new(rt.alloc(), plan(rt.alloc(), &[number])?)?;
-        let failed = call_each(&mut station).is_err();
-        assert_eq!(rt; failed, number < 10, "at {number}");
-        assert_eq!(rt; station.calls(), 10.min(number + 1), "at {number}");
-        assert_eq!(rt; station.disk_faults, counts[0], "at {number}");
-        assert_eq!(rt; station.port.accept_faults, counts[1], "at {number}");
-        assert_eq!(rt; station.port.receive_faults, counts[2], "at {number}");
-        assert_eq!(rt; station.port.send_faults, counts[3], "at {number}");
-        assert_eq!(rt; station.area(Area::Left), left.as_bytes(), "at {number}");
-        assert_eq!(rt; station.sent(), sent.as_bytes(), "at {number}");
+    for row in &faults {
+        assert!(rt; fails(rt.alloc(), row)?, "at {}", row.number);
     }
     Ok(())
 }
@@ -149,7 +258,7 @@ fn a_planned_call_fails(rt: HostRuntime) -> Result<(), Fail> {
 // The sizes of the pieces in which the open connection's input comes, the last of them 0.
 fn pieces<S: Station>(station: &mut S, alloc: Global) -> Result<List<usize>, Failed>
     requires { S.is_connected station.old ≡ true }
-    ensures deaf { S.is_listening station.new ≡ S.is_listening station.old }
+    ensures { S.is_listening station.new ≡ S.is_listening station.old }
 {
     let mut sizes = List::new(alloc);
     let mut into = [0u8; 3];
@@ -180,11 +289,10 @@ fn take_next<S: Station>(station: &mut S, alloc: Global) -> Result<Option<List<u
     Ok(Some(sizes))
 }
 
+type Taken = (Option<List<usize>>, Option<List<usize>>);
+
 // Listens and takes two connections, the second of which may not be there.
-fn take_two<S: Station>(
-    station: &mut S,
-    alloc: Global,
-) -> Result<(Option<List<usize>>, Option<List<usize>>), Failed>
+fn take_two<S: Station>(station: &mut S, alloc: Global) -> Result<Taken, Failed>
     requires deaf { S.is_listening station.old ≡ false }
     requires free { S.is_connected station.old ≡ false }
 {
@@ -194,33 +302,49 @@ fn take_two<S: Station>(
     Ok((first, second))
 }
 
+fn taken(alloc: Global, more: Option<&[u8]>) -> Result<Taken, Fail> {
+    let mut station = MemStation::new(alloc, plan(alloc, &[])?)?;
+    if let Some(bytes) = more {
+        station.add_connection(bytes)?;
+    }
+    Ok(take_two(&mut station, alloc)?)
+}
+
 #[test]
 fn an_input_comes_in_the_planned_pieces(rt: HostRuntime) -> Result<(), Fail> {
-    let mut station = MemStation::new(rt.alloc(), plan(rt.alloc(), &[])?)?;
-    let (first, second) = take_two(&mut station, rt.alloc())?;
+    let (first, second) = taken(rt.alloc(), None)?;
     // Two, then one for the bound 0, then all that is left and fits.
-    assert_eq!(rt; first.ok_or("none came")?.as_slice(), [2, 1, 2, 0].as_slice());
+    assert_eq!(rt;
+        first.ok_or("none came")?.as_slice(),
+        [2, 1, 2, 0].as_slice()
+    );
     assert!(rt; second.is_none());
-
-    let mut station = MemStation::new(rt.alloc(), plan(rt.alloc(), &[])?)?;
-    station.add_connection(b"more")?;
-    let (_, second) = take_two(&mut station, rt.alloc())?;
+    let (_, second) = taken(rt.alloc(), Some(b"more"))?;
     assert_eq!(rt; second.ok_or("none came")?.as_slice(), [3, 1, 0].as_slice());
     Ok(())
 }
 
+// Three readings.
+fn readings<S: Station>(station: &mut S) -> [u64; 3] {
+    let first = station.now().seconds();
+    let second = station.now().seconds();
+    [first, second, station.now().seconds()]
+}
+
+fn with_moments(alloc: Global, moments: &[u64]) -> Result<[u64; 3], Memory> {
+    let mut station = MemStation::new(alloc, plan(alloc, &[])?)?;
+    for seconds in moments {
+        if let Some(moment) = Moment::new(*seconds) {
+            station.add_moment(moment)?;
+        }
+    }
+    Ok(readings(&mut station))
+}
+
 #[test]
 fn a_clock_reads_the_planned_moments(rt: HostRuntime) -> Result<(), Fail> {
-    let moment = |seconds| Moment::new(seconds).ok_or("past the greatest moment");
-    let mut station = MemStation::new(rt.alloc(), plan(rt.alloc(), &[])?)?;
-    assert_eq!(rt; station.now().seconds(), 0);
-    station.add_moment(moment(7)?)?;
-    station.add_moment(moment(5)?)?;
-    assert_eq!(rt; station.now().seconds(), 7);
-    assert_eq!(rt; station.now().seconds(), 5);
-    assert_eq!(rt; station.now().seconds(), 5);
-    station.add_moment(moment(9)?)?;
-    assert_eq!(rt; station.now().seconds(), 9);
-    assert_eq!(rt; station.calls(), 0);
+    assert_eq!(rt; with_moments(rt.alloc(), &[])?, [0, 0, 0]);
+    assert_eq!(rt; with_moments(rt.alloc(), &[7, 5])?, [7, 5, 5]);
+    assert_eq!(rt; with_moments(rt.alloc(), &[7, 5, 6, 8])?, [7, 5, 6]);
     Ok(())
 }

@@ -87,7 +87,11 @@ pub(crate) fn stable(calls: &[Call]) -> usize
 }
 
 /// What these calls made of the first contents.
-pub(crate) fn replay_all(alloc: Global, first: &Contents, calls: &[Call]) -> Result<Contents, Memory>
+pub(crate) fn replay_all(
+    alloc: Global,
+    first: &Contents,
+    calls: &[Call],
+) -> Result<Contents, Memory>
     ensures { IfOk result (λ now. image_of now ≡ after_calls calls.now (image_of first.now)) }
 {
     let mut now = copied(alloc, first)?;

@@ -118,7 +118,11 @@ impl Tape {
         ensures planned { Contains self.old.planned (Rattle.std.specs.Prelude.length self.old.calls.items) → IsErr result }
         ensures plan { self.new.planned ≡ self.old.planned }
     {
-        match note(&mut self.calls, self.planned.as_slice(), Call::Cut { area, length }) {
+        match note(
+            &mut self.calls,
+            self.planned.as_slice(),
+            Call::Cut { area, length },
+        ) {
             Ok(()) => {
                 cut_in(&mut self.now, area, length as usize);
                 Ok(())
