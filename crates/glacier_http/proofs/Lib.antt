@@ -7,6 +7,7 @@ pub mod JudgeLemmas
 pub mod NumberLemmas
 pub mod OpeningLemmas
 pub mod PieceLemmas
+pub mod PutLemmas
 pub mod ReadLemmas
 pub mod RoomLemmas
 pub mod ScanLemmas
