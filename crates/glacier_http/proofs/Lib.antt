@@ -8,7 +8,9 @@ pub mod NumberLemmas
 pub mod OpeningLemmas
 pub mod PieceLemmas
 pub mod PutLemmas
+pub mod ReadBackLemmas
 pub mod ReadLemmas
+pub mod ResponseLemmas
 pub mod RoomLemmas
 pub mod ScanLemmas
 pub mod ShortestLemmas

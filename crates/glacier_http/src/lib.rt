@@ -14,6 +14,7 @@ mod printing;
 mod put;
 mod reading;
 mod reply;
+pub mod reply_laws;
 #[cfg(test)]
 mod reply_tests;
 mod room;
