@@ -14,10 +14,10 @@ use std::alloc::Global;
 use std::thread::Threads;
 
 /// How many leaves are read before they are hashed.
-const LEAVES: usize = 16;
+const LEAVES: usize = 32;
 
 /// How many leaves one worker hashes.
-const GRAIN: u32 = 4;
+const GRAIN: u32 = 1;
 
 // Fills the buffer from the front, as far as there are bytes.
 fn fill<F: Files>(files: &mut F, buffer: &mut [u8]) -> Result<usize, Failed>
