@@ -4,8 +4,8 @@
     bench/hash.py [MEBIBYTES]
 
 It writes a file of so many MiB (1,024 where no number is given) into a temporary folder, reads it once so that it lies
-in the page cache, and prints a table: seconds of wall and of processor time (the least of three runs), megabytes a
-second, the speed as a ratio to Python's hashlib, and the most memory that was resident. The small program that hashes
+in the page cache, and prints a table: seconds of wall and of processor time (the least of five runs, one program after
+another), megabytes a second, the speed as a ratio to Python's hashlib, and the most memory that was resident. The small program that hashes
 forked in memory is written into the same folder and built there.
 """
 
@@ -18,7 +18,7 @@ import tempfile
 import time
 
 ROOT = os.path.dirname(os.path.dirname(os.path.abspath(__file__)))
-RUNS = 3
+RUNS = 5
 
 HASHLIB = """
 import hashlib, sys
@@ -59,19 +59,23 @@ fn main(rt: HostRuntime) -> io::Result<ExitCode> {
 """
 
 
-def measure(words):
-    """The least wall and processor seconds of some runs, and the most resident memory, in MiB."""
-    wall, cpu, memory = [], [], []
-    for _ in range(RUNS):
+class Row:
+    """A program that is measured: the least wall and processor seconds so far, and the most resident memory, in MiB."""
+
+    def __init__(self, label, words):
+        self.label, self.words = label, words
+        self.wall = self.cpu = float("inf")
+        self.memory = 0.0
+        self.works = shutil.which(words[0]) is not None
+
+    def run(self):
         start = time.monotonic()
-        child = subprocess.Popen(words, stdout=subprocess.DEVNULL)
+        child = subprocess.Popen(self.words, stdout=subprocess.DEVNULL, stderr=subprocess.DEVNULL)
         _, status, usage = os.wait4(child.pid, 0)
-        wall.append(time.monotonic() - start)
-        cpu.append(usage.ru_utime + usage.ru_stime)
-        memory.append(usage.ru_maxrss / 1024)
-        if status != 0:
-            return None
-    return min(wall), min(cpu), max(memory)
+        self.wall = min(self.wall, time.monotonic() - start)
+        self.cpu = min(self.cpu, usage.ru_utime + usage.ru_stime)
+        self.memory = max(self.memory, usage.ru_maxrss / 1024)
+        self.works = status == 0
 
 
 def build_forked(folder):
@@ -108,30 +112,28 @@ def main():
         glacier = os.path.join(ROOT, "glacier")
         subprocess.run([glacier, "hash", "/dev/null"], stdout=subprocess.DEVNULL, check=True)
         rows = [
-            ("hashlib (Python, reads of 1 MiB)", ["python3", "-c", HASHLIB, name]),
-            ("glacier hash", [os.path.join(ROOT, "crates/glacier_cli/out/glacier_cli"), "hash", name]),
-            ("sha256sum", ["sha256sum", name]),
-            ("openssl dgst -sha256", ["openssl", "dgst", "-sha256", name]),
-            ("botocore calculate_tree_hash", ["python3", "-c", BOTOCORE, name]),
+            Row("hashlib (Python, reads of 1 MiB)", ["python3", "-c", HASHLIB, name]),
+            Row("glacier hash", [os.path.join(ROOT, "crates/glacier_cli/out/glacier_cli"), "hash", name]),
+            Row("sha256sum", ["sha256sum", name]),
+            Row("openssl dgst -sha256", ["openssl", "dgst", "-sha256", name]),
+            Row("botocore calculate_tree_hash", ["python3", "-c", BOTOCORE, name]),
         ]
         forked = build_forked(folder)
         if forked:
-            rows.append(("tree_hash_forked, grain 4, file read whole", [forked, name]))
-        print(f"{size} MiB, {os.cpu_count()} processors, the least of {RUNS} runs")
+            rows.append(Row("tree_hash_forked, grain 4, file read whole", [forked, name]))
+        for _ in range(RUNS):
+            for row in rows:
+                if row.works:
+                    row.run()
+        print(f"{size} MiB, {os.cpu_count()} processors, the least of {RUNS} runs, one program after another")
         print(f"{'program':44} {'wall s':>8} {'cpu s':>8} {'MB/s':>8} {'ratio':>7} {'MiB':>7}")
-        base = None
-        for label, words in rows:
-            if shutil.which(words[0]) is None and not os.path.exists(words[0]):
-                print(f"{label:44} not there")
+        for row in rows:
+            if not row.works:
+                print(f"{row.label:44} failed or not there")
                 continue
-            got = measure(words)
-            if got is None:
-                print(f"{label:44} failed or not there")
-                continue
-            wall, cpu, memory = got
-            base = base or wall
-            rate = size * 1.048576 / wall
-            print(f"{label:44} {wall:8.2f} {cpu:8.2f} {rate:8.0f} {base / wall:7.2f} {memory:7.0f}")
+            rate = size * 1.048576 / row.wall
+            ratio = rows[0].wall / row.wall
+            print(f"{row.label:44} {row.wall:8.2f} {row.cpu:8.2f} {rate:8.0f} {ratio:7.2f} {row.memory:7.0f}")
 
 
 if __name__ == "__main__":
