@@ -1,0 +1,82 @@
+// The JSON bodies of replies.
+ghost use Rattle.std.specs.Prelude.{◌≡◌, IfOk, false, string_bytes};
+ghost use Rattle.serde_json.specs.View.{view};
+ghost use Rattle.serde_json.specs.Written.{compact_text, has_float};
+ghost use Rattle.glacier_machine.specs.Bodies.{refusal_data, told_of_vault, vault_data, arn_of};
+
+use crate::ascii::{account_text, ascii_text, name_text, region_text};
+use crate::objects::{Part, object};
+use glacier_base::{Memory, Moment, Text, VaultName, iso_text};
+use glacier_vault::Rules;
+use serde_json::Value;
+use std::alloc::{AllocError, Global};
+
+fn refusal_value<'x>(alloc: Global, code: &'x str, message: &'x str) -> Result<Value, AllocError>
+    ensures value { IfOk result (λ v. view v ≡ refusal_data code.now message.now) }
+    ensures plain { IfOk result (λ v. has_float (view v) ≡ false) }
+{
+    object(
+        alloc,
+        &[
+            ("code", Part::Text(code)),
+            ("message", Part::Text(message)),
+            ("type", Part::Text("Client")),
+        ],
+    )
+}
+
+/// The body of a refusal.
+pub(crate) fn refusal_body(alloc: Global, code: &str, message: &str) -> Result<Text, Memory>
+    ensures { IfOk result (λ body. body ≡ compact_text (refusal_data code.now message.now)) }
+{
+    let text = refusal_value(alloc, code, message)?.to_vec(alloc)?;
+    Ok(Text::from_vec(text))
+}
+
+/// The resource name of a vault.
+fn arn(alloc: Global, rules: &Rules, name: &VaultName) -> Result<String, AllocError>
+    ensures { IfOk result (λ text. string_bytes text ≡ arn_of rules.now.region rules.now.account name.now) }
+{
+    let region = region_text(&rules.region);
+    let account = account_text(&rules.account);
+    let name = name_text(name);
+    format!(in alloc; "arn:aws:glacier:{region}:{account}:vaults/{name}")
+}
+
+fn vault_value<'x>(
+    alloc: Global,
+    created: &'x str,
+    arn: &'x str,
+    name: &'x str,
+) -> Result<Value, AllocError>
+    ensures value { IfOk result (λ v. view v ≡ told_of_vault created.now arn.now name.now) }
+    ensures plain { IfOk result (λ v. has_float (view v) ≡ false) }
+{
+    object(
+        alloc,
+        &[
+            ("CreationDate", Part::Text(created)),
+            ("LastInventoryDate", Part::Null),
+            ("NumberOfArchives", Part::Number(0)),
+            ("SizeInBytes", Part::Number(0)),
+            ("VaultARN", Part::Text(arn)),
+            ("VaultName", Part::Text(name)),
+        ],
+    )
+}
+
+/// What is told of a vault.
+pub(crate) fn vault_body(
+    alloc: Global,
+    rules: &Rules,
+    name: &VaultName,
+    created: Moment,
+) -> Result<Text, Memory>
+    ensures { IfOk result (λ body. body ≡ compact_text (vault_data created (arn_of rules.now.region rules.now.account name.now) name.now)) }
+{
+    let created = iso_text(created);
+    let arn = arn(alloc, rules, name)?;
+    let value = vault_value(alloc, ascii_text(&created), &arn, name_text(name))?;
+    let text = value.to_vec(alloc)?;
+    Ok(Text::from_vec(text))
+}
