@@ -30,9 +30,16 @@ vault_op method name =
     else if bytes_eq method (codes "GET") then Some (DescribeVault name)
     else None
 
+-- the one piece, if there is only one
+abbrev pub only : List (List ℕ) → Option (List ℕ)
+only [] = None
+only (piece ∷ []) = Some piece
+only (piece ∷ second ∷ more) = None
+
 -- the account and the name of `/ACCOUNT/vaults/NAME`, the path of a vault
 abbrev pub vault_path : List (List ℕ) → Option (List ℕ × List ℕ)
-vault_path ([] ∷ account ∷ word ∷ name ∷ []) = if bytes_eq word (codes "vaults") then Some (account, name) else None
+vault_path ([] ∷ account ∷ word ∷ rest) =
+    if bytes_eq word (codes "vaults") then option_map (λ name. (account, name)) (only rest) else None
 vault_path _ = None
 
 -- the route of an operation on the vault of a name

@@ -6,7 +6,7 @@ ghost use Rattle.glacier_machine.specs.Bodies.{refusal_data, told_of_vault, vaul
 
 use crate::ascii::{account_text, ascii_text, name_text, region_text};
 use crate::objects::{Part, object};
-use glacier_base::{Memory, Moment, Text, VaultName, iso_text};
+use glacier_base::{LAST_MOMENT, Memory, Moment, Text, VaultName, iso_text};
 use glacier_vault::Rules;
 use serde_json::Value;
 use std::alloc::{AllocError, Global};
@@ -37,10 +37,14 @@ pub(crate) fn refusal_body(alloc: Global, code: &str, message: &str) -> Result<T
 fn arn(alloc: Global, rules: &Rules, name: &VaultName) -> Result<String, AllocError>
     ensures { IfOk result (λ text. string_bytes text ≡ arn_of rules.now.region rules.now.account name.now) }
 {
-    let region = region_text(&rules.region);
-    let account = account_text(&rules.account);
-    let name = name_text(name);
-    format!(in alloc; "arn:aws:glacier:{region}:{account}:vaults/{name}")
+    let mut text = String::new(alloc);
+    text.push_str("arn:aws:glacier:")?;
+    text.push_str(region_text(&rules.region))?;
+    text.push_str(":")?;
+    text.push_str(account_text(&rules.account))?;
+    text.push_str(":vaults/")?;
+    text.push_str(name_text(name))?;
+    Ok(text)
 }
 
 fn vault_value<'x>(
@@ -74,9 +78,10 @@ pub(crate) fn vault_body(
 ) -> Result<Text, Memory>
     ensures { IfOk result (λ body. body ≡ compact_text (vault_data created (arn_of rules.now.region rules.now.account name.now) name.now)) }
 {
-    let created = iso_text(created);
+    prove!(created.seconds() <= LAST_MOMENT);
+    let date = iso_text(created);
     let arn = arn(alloc, rules, name)?;
-    let value = vault_value(alloc, ascii_text(&created), &arn, name_text(name))?;
+    let value = vault_value(alloc, ascii_text(&date), &arn, name_text(name))?;
     let text = value.to_vec(alloc)?;
     Ok(Text::from_vec(text))
 }

@@ -12,6 +12,8 @@ mod replies;
 mod routes;
 mod routing;
 mod stepping;
+#[cfg(test)]
+mod tests;
 
 pub use action::{Action, Answer, Asked};
 pub use asking::{read_request, request_of};

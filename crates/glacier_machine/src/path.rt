@@ -1,6 +1,6 @@
 // The pieces of a path.
 ghost use Rattle.std.specs.Prelude.{◌≡◌, ◌≢◌, ◌<◌, ◌≤◌, ℕ, ◌∷◌, length, slice_index, bytes_eq, option_map};
-ghost use Rattle.glacier_machine.specs.Routes.{pieces, pieces_behind, vault_path as path_of_vault};
+ghost use Rattle.glacier_machine.specs.Routes.{pieces, pieces_behind, only, vault_path as path_of_vault};
 
 /// Whether two texts are the same.
 pub(crate) fn is_same(a: &[u8], b: &[u8]) -> bool
@@ -34,6 +34,17 @@ fn cut(text: &[u8]) -> (&[u8], Option<&[u8]>)
     (text, None)
 }
 
+/// The text, where it has no slash.
+fn only_piece(text: &[u8]) -> Option<&[u8]>
+    ensures { option_map (λ piece. piece.now) result ≡ only (pieces text.now) }
+{
+    let at = slash_at(text);
+    if at < text.len() {
+        return None;
+    }
+    Some(text)
+}
+
 /// The account and the name of a vault's path.
 pub(crate) fn vault_path(path: &[u8]) -> Option<(&[u8], &[u8])>
     ensures { option_map (λ found. (found.0.now, found.1.now)) result ≡ path_of_vault (pieces path.now) }
@@ -41,13 +52,12 @@ pub(crate) fn vault_path(path: &[u8]) -> Option<(&[u8], &[u8])>
     let (first, rest) = cut(path);
     let (account, rest) = cut(rest?);
     let (word, rest) = cut(rest?);
-    let (name, rest) = cut(rest?);
-    if !first.is_empty() || rest.is_some() {
+    let name = only_piece(rest?)?;
+    if !first.is_empty() {
         return None;
     }
     if is_same(word, b"vaults") {
-        Some((account, name))
-    } else {
-        None
+        return Some((account, name));
     }
+    None
 }
