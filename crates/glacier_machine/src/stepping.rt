@@ -32,8 +32,10 @@ fn create_vault(
 ) -> Result<Answer, Memory>
     requires time { state.old.last ≤ m }
     requires lawful { IsLawful state.old }
-    ensures answer { IfOk result (λ answer. answer ≡ (step_of rules.now m (CreateVault name.now) state.old).answer) }
-    ensures state { OnOk result (state.new ≡ (step_of rules.now m (CreateVault name.now) state.old).state) }
+    ensures answer { IfOk result (λ answer. answer
+        ≡ (step_of rules.now m (CreateVault name.now) state.old).answer) }
+    ensures state { OnOk result (state.new
+        ≡ (step_of rules.now m (CreateVault name.now) state.old).state) }
     ensures lawful { OnOk result (IsLawful state.new) }
     ensures err { OnErr result (state.new ≡ state.old) }
 {
@@ -54,7 +56,8 @@ fn describe_vault(
     m: Moment,
     name: &VaultName,
 ) -> Result<Answer, Memory>
-    ensures { IfOk result (λ answer. answer ≡ (step_of rules.now m (DescribeVault name.now) state.now).answer) }
+    ensures { IfOk result (λ answer. answer
+        ≡ (step_of rules.now m (DescribeVault name.now) state.now).answer) }
 {
     let reply = match find(state, name) {
         Ok(vault) => described_reply(alloc, rules, name, vault)?,

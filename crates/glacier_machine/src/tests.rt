@@ -1,5 +1,4 @@
 // Requests from their heads to their replies.
-ghost use Rattle.std.specs.Prelude.{OnOk};
 ghost use Rattle.glacier_vault.specs.Lawful.{IsLawful};
 
 use crate::{Asked, bad_head_refusal, read_request, refusal_reply, step};
@@ -20,7 +19,7 @@ fn reply_to_asked(
     asked: &Asked,
 ) -> Result<Reply, Memory>
     requires { IsLawful state.old }
-    ensures { OnOk result (IsLawful state.new) }
+    ensures { IsLawful state.new }
 {
     let Some(region) = Region::parse(b"us-east-1") else {
         return Err(Memory);
@@ -56,7 +55,7 @@ fn reply_to(
     room: &mut HeadRoom,
 ) -> Result<Reply, Memory>
     requires { IsLawful state.old }
-    ensures { OnOk result (IsLawful state.new) }
+    ensures { IsLawful state.new }
 {
     match asked_by(request, room) {
         Ok(asked) => reply_to_asked(alloc, state, reading, &asked),
@@ -140,14 +139,30 @@ fn refusals(rt: HostRuntime) -> Result<(), Fail> {
             NO_ROUTE,
         ),
         (b"PUT /111122223333/vault/v HTTP/1.1\r\n\r\n", 404, NO_ROUTE),
-        (b"PUT /111122223333/vaults/v/ HTTP/1.1\r\n\r\n", 404, NO_ROUTE),
+        (
+            b"PUT /111122223333/vaults/v/ HTTP/1.1\r\n\r\n",
+            404,
+            NO_ROUTE,
+        ),
         (b"GET /111122223333/vaults HTTP/1.1\r\n\r\n", 404, NO_ROUTE),
         (b"GET /11112222333/vaults/v HTTP/1.1\r\n\r\n", 404, NO_ROUTE),
-        (b"POST /111122223333/vaults/ HTTP/1.1\r\n\r\n", 404, NO_ROUTE),
+        (
+            b"POST /111122223333/vaults/ HTTP/1.1\r\n\r\n",
+            404,
+            NO_ROUTE,
+        ),
         // Bad names come before the account.
         (b"PUT /-/vaults/ HTTP/1.1\r\n\r\n", 400, BAD_NAME),
-        (b"GET /111122223333/vaults/.. HTTP/1.1\r\n\r\n", 400, BAD_NAME),
-        (b"GET /111122223333/vaults/a~b HTTP/1.1\r\n\r\n", 400, BAD_NAME),
+        (
+            b"GET /111122223333/vaults/.. HTTP/1.1\r\n\r\n",
+            400,
+            BAD_NAME,
+        ),
+        (
+            b"GET /111122223333/vaults/a~b HTTP/1.1\r\n\r\n",
+            400,
+            BAD_NAME,
+        ),
         // In order: the account, a token, the version, the length.
         (
             b"GET /-/vaults/v HTTP/1.1\r\nx-amz-security-token: t\r\n\r\n",
