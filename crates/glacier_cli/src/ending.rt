@@ -35,8 +35,10 @@ impl Ending {
     }
 
     fn write_line<O: Sink>(&self, out: &mut O) -> Result<(), Failed>
-        ensures whole { IsTrue O.tells → OnOk result (O.written out.new ≡ O.written out.old ++ line_of self.now) }
-        ensures part { IsTrue O.tells → OnErr result (WritesPart (line_of self.now) (O.written out.old) (O.written out.new)) }
+        ensures whole { IsTrue O.tells →
+            OnOk result (O.written out.new ≡ O.written out.old ++ line_of self.now) }
+        ensures part { IsTrue O.tells →
+            OnErr result (WritesPart (line_of self.now) (O.written out.old) (O.written out.new)) }
         ensures cause { HasCause (O.sink_faults out.old) (O.sink_faults out.new) result }
     {
         match self {

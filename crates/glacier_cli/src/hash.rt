@@ -23,12 +23,15 @@ const GRAIN: u32 = 1;
 fn fill<F: Files>(files: &mut F, buffer: &mut [u8]) -> Result<usize, Failed>
     requires { F.is_open files.old ≡ true }
     ensures bound { IfOk result (λ count. count ≤ length buffer.old) }
-    ensures taken { IsTrue F.tells → IfOk result (λ count. F.rest files.old ≡ take count buffer.new ++ F.rest files.new) }
-    ensures end { IsTrue F.tells → IfOk result (λ count. count < length buffer.old → F.rest files.new ≡ []) }
+    ensures taken { IsTrue F.tells →
+        IfOk result (λ count. F.rest files.old ≡ take count buffer.new ++ F.rest files.new) }
+    ensures end { IsTrue F.tells →
+        IfOk result (λ count. count < length buffer.old → F.rest files.new ≡ []) }
     ensures given { IfOk result (λ count. F.given files.new ≡ F.given files.old + count) }
     ensures most { IfOk result (λ count. 0 < count → F.given files.new ≤ MOST_READ) }
     ensures opened { F.is_open files.new ≡ true }
-    ensures content { IsTrue F.tells → (key : Option (List ℕ)) → F.content files.new key ≡ F.content files.old key }
+    ensures content { IsTrue F.tells → (key : Option (List ℕ)) →
+        F.content files.new key ≡ F.content files.old key }
     ensures names { IsTrue F.tells → F.names files.new ≡ F.names files.old }
     ensures cause { HasCause (F.read_faults files.old) (F.read_faults files.new) result }
 {
@@ -69,9 +72,11 @@ fn hash_open<R: Threads + Sync, F: Files>(
     requires room { 0 < length buffer.old }
     requires whole { length buffer.old % MIB ≡ 0 }
     requires few { length buffer.old ≤ LEAVES * MIB }
-    ensures digest { IsTrue F.tells → IfOk result (λ digest. digest ≡ tree_hash_of (F.rest files.old)) }
+    ensures digest { IsTrue F.tells →
+        IfOk result (λ digest. digest ≡ tree_hash_of (F.rest files.old)) }
     ensures end { IsTrue F.tells → IfOk result (λ _. F.rest files.new ≡ []) }
-    ensures content { IsTrue F.tells → (key : Option (List ℕ)) → F.content files.new key ≡ F.content files.old key }
+    ensures content { IsTrue F.tells → (key : Option (List ℕ)) →
+        F.content files.new key ≡ F.content files.old key }
     ensures names { IsTrue F.tells → F.names files.new ≡ F.names files.old }
     ensures cause { HasCause (F.read_faults files.old) (F.read_faults files.new) result }
 {
@@ -101,9 +106,15 @@ pub(crate) fn hash<R: Threads + Sync, F: Files>(
     files: &mut F,
 ) -> Ending
     ensures stands { StandsFor (Some (hash_form (option_map (λ text. text.now) name.entry))) F.tells
-        (record { content = F.content files.old; rest = F.rest files.new; names_before = F.names files.old; names_after = F.names files.new })
+        (record {
+          content = F.content files.old;
+          rest = F.rest files.new;
+          names_before = F.names files.old;
+          names_after = F.names files.new;
+        })
         (HasRisen (F.read_faults files.old) (F.read_faults files.new)) result }
-    ensures content { IsTrue F.tells → (key : Option (List ℕ)) → F.content files.new key ≡ F.content files.old key }
+    ensures content { IsTrue F.tells → (key : Option (List ℕ)) →
+        F.content files.new key ≡ F.content files.old key }
     ensures later { F.read_faults files.old ≤ F.read_faults files.new }
 {
     let Ok(mut buffer) = zeros(alloc, LEAVES * MIB) else {

@@ -23,7 +23,8 @@ fn words_of(rt: &HostRuntime) -> io::Result<Vec<String>> {
     Ok(words)
 }
 
-// A word that isn't UTF-8 is no word of a form; any other fault of reading the words is want of memory.
+// A word that isn't UTF-8 is no word of a form. Any other fault of reading the words is want of
+// memory.
 fn ending_of(fault: io::Error) -> Ending {
     if fault.kind() == ErrorKind::InvalidData {
         Ending::Usage
