@@ -42,7 +42,8 @@ pub fn range_hash(leaves: &[Digest], size: u64, first: u64, end: u64) -> Option<
     requires some { 1 ≤ size }
     requires count { length leaves.now ≡ div_ceil size MIB }
     ensures node { IsSome result ↔ IsNode size first end }
-    ensures root { IfSome result (λ root. root ≡ root_of_digests (slice_range leaves.now (first / MIB) (div_ceil end MIB))) }
+    ensures root { IfSome result (λ root.
+        root ≡ root_of_digests (slice_range leaves.now (first / MIB) (div_ceil end MIB))) }
     ensures tree_hash { (bytes : List ℕ) → length bytes ≡ size → leaves.now ≡ leaves_of bytes →
         IfSome result (λ digest. digest ≡ tree_hash_of (slice_range bytes first end)) }
 {
