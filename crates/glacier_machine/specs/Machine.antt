@@ -1,5 +1,5 @@
 -- One step of an account's machine: what an action is answered, and the state that it leaves.
-use Rattle.std.specs.Prelude.{ℕ, List, Option, Some, None, Result, Ok, Err}
+use Rattle.std.specs.Prelude.{ℕ, Option, Some, None, Result, Ok, Err}
 use Rattle.std.specs.FinMap as map
 use Rattle.glacier_http.specs.declared.reply.Reply.{Reply}
 use Rattle.glacier_vault.specs.declared.event.Change.{Change}
