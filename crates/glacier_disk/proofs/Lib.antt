@@ -1,0 +1,15 @@
+pub mod LineLemmas
+pub mod Images
+pub mod Put
+pub mod Pushed
+pub mod Steps
+pub mod Walks
+pub mod With
+pub mod Connections
+pub mod Sending
+pub mod Results
+pub mod Replays
+pub mod TapeSteps
+pub mod ReadingLemmas
+pub mod Tears
+pub mod Synced

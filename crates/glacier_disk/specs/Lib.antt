@@ -1,0 +1,14 @@
+pub mod Contents
+pub mod Image
+pub mod Record
+pub mod RecordLaws
+pub mod Sent
+pub mod SentLaws
+pub mod Lines
+pub mod Memory
+pub mod Network
+pub mod Readings
+pub mod NetworkLaws
+pub mod Calls
+pub mod Stopped
+pub mod Time

@@ -1,0 +1,59 @@
+// One connection of the memory form.
+ghost use Rattle.std.specs.Prelude.{◌≡◌, ◌<◌, ◌≤◌, ℕ, [], length, take};
+ghost use Rattle.glacier_disk.specs.Lines.{connection_of};
+ghost use Rattle.glacier_disk.specs.Network.{accepted, Takes, TakesNone, SendsPart};
+
+use glacier_base::Text;
+use std::alloc::Global;
+
+#[derive(Drop)]
+pub struct Line {
+    pub input: Text,
+    pub taken: usize,
+    pub sent: Vec<u8>,
+    pub receives_failed: u64,
+    pub sends_failed: u64,
+}
+
+impl Line {
+    pub(crate) fn new(alloc: Global, input: Text) -> Line
+        ensures { connection_of result ≡ accepted input }
+    {
+        Line {
+            input,
+            taken: 0,
+            sent: Vec::new(alloc),
+            receives_failed: 0,
+            sends_failed: 0,
+        }
+    }
+
+    /// Takes as many bytes as there are, as fit and as the limit allows.
+    pub(crate) fn take(&mut self, into: &mut [u8], limit: usize) -> usize
+        requires { 0 < limit }
+        ensures within { result ≤ length into.old }
+        ensures takes { Takes (take result into.new) (connection_of self.old) (connection_of self.new) }
+        ensures end { 0 < length into.old → result ≡ 0 → (connection_of self.new).coming ≡ [] }
+    {
+        let input = self.input.bytes();
+        let start = self.taken.min(input.len());
+        let count = into.len().min(input.len() - start).min(limit);
+        into[..count].copy_from_slice(&input[start..start + count]);
+        self.taken = start + count;
+        count
+    }
+
+    pub(crate) fn take_none(&mut self)
+        ensures { TakesNone (connection_of self.old) (connection_of self.new) }
+    {
+        self.receives_failed = self.receives_failed.saturating_add(1);
+    }
+
+    /// A send that failed with no byte sent.
+    pub(crate) fn send_none(&mut self, bytes: &[u8])
+        ensures { SendsPart 0 bytes.now (connection_of self.old) (connection_of self.new) }
+    {
+        let _ = bytes;
+        self.sends_failed = self.sends_failed.saturating_add(1);
+    }
+}
