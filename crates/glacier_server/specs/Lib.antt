@@ -1,0 +1,6 @@
+pub mod Finding
+pub mod Machine
+pub mod Moves
+pub mod Out
+pub mod Served
+pub mod Turn
