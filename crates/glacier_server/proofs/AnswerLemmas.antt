@@ -234,9 +234,6 @@ module _ (config : Config) (n : ℕ) (bytes : List ℕ) (headers : List HeaderSp
   pub said : List ℕ → Option End → List ℕ
   said got end = reply config state (Good h (body got)) reading (is_some end)
 
-  ends : Option End → Type 0
-  ends end = end ≡ (if n + 1 == most_messages then Some Bound else if spans.close then Some Closed else None)
-
   end_is : (got : List ℕ) (end : Option End) → end ≡ (if n + 1 == most_messages then Some Bound else if spans.close then Some Closed else None)
       → end_for_some (last_end n (Good h (body got))) ≡ end
   unfolding h

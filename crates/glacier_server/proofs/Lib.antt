@@ -1,8 +1,10 @@
+mod AllSentLemmas
 mod AnswerLemmas
 mod ListLemmas
 mod MoveLemmas
 mod OutLemmas
 mod RunLemmas
 mod RunOneLemmas
+mod ServingLemmas
 mod StepLemmas
 mod TurnLemmas

@@ -3,4 +3,5 @@ pub mod Machine
 pub mod Moves
 pub mod Out
 pub mod Served
+pub mod Serving
 pub mod Turn

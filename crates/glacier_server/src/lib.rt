@@ -8,12 +8,15 @@ mod connection;
 mod end;
 mod extent;
 mod finding;
+pub mod laws;
 mod machine;
 mod moves;
+mod serving;
 mod store;
 mod unread;
 
 pub use config::Config;
 pub use connection::serve_connection;
 pub use end::{End, ServeFault};
+pub use serving::serve;
 pub use store::Store;

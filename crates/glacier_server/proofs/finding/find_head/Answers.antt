@@ -4,6 +4,12 @@ use Rattle.glacier_http.specs.declared.head_spans.HeadStep.TheVariants as step
 use Rattle.glacier_server.proofs.MoveLemmas.{stays, then, takes_then, risen_after}
 use Rattle.glacier_server.proofs.finding.find_head.Goals as goal
 
+pub returns-in-Head-clause-found : goal.returns-in-Head-clause-found
+returns-in-Head-clause-found g c = subst (λ (l : List ℕ). IsStep l c.read_head.new.room (step.Head c.in-Head.spans)) c.bytes.ensures.same c.in-Head.ensures.step
+
+pub returns-in-Bad-clause-found : goal.returns-in-Bad-clause-found
+returns-in-Bad-clause-found g c = subst (λ (l : List ℕ). IsStep l c.read_head.new.room (step.Bad c.in-Bad.cause)) c.bytes.ensures.same c.in-Bad.ensures.step
+
 pub search-init : goal.search-init
 search-init g c = record {
   moves = λ t. ([], sym (append-nil _), stays g.S.Station.connections g.S.Station.readings c.args.station.now);
