@@ -1,9 +1,9 @@
 -- What was taken, read and sent for one message makes a turn.
 use Rattle.std.proofs.Common.{◌≡◌, ℕ, ◌+◌, ◌-◌, ◌<◌, ◌≤◌, ◌⊎◌, Bool, true, false, List, [], ◌∷◌, ◌++◌, length, take, drop, Some, None, inl, inr, refl, sym, ap, subst, ◌∙◌, arith, length-append, append-nil, take-append-drop, length-drop}
-use Rattle.std.specs.Prelude.{Option, min, if◌then◌else◌, ◌==◌}
+use Rattle.std.specs.Prelude.{Option, min, codes, nat_le, ◌^◌, if◌then◌else◌, ◌==◌}
 use Rattle.std.specs.Option.{is_some}
 use Rattle.std.proofs.lemmas.List.{length-take-le}
-use Rattle.std.proofs.lemmas.Bool.{cases_lt}
+use Rattle.std.proofs.lemmas.Bool.{cases_lt, leb-true}
 use Rattle.std.proofs.Math.Seq.{drop-append-add}
 use Rattle.httparse.specs.declared.spans.HeaderSpan.{HeaderSpan}
 use Rattle.httparse.specs.Grammar.{RequestHead, print_request, IsRequestHead}
@@ -11,7 +11,8 @@ use Rattle.glacier_http.specs.declared.bad_head.BadHead.{BadHead}
 use Rattle.glacier_http.specs.declared.head_spans.HeadSpans.{HeadSpans}
 use Rattle.glacier_http.specs.declared.head_spans.HeadStep.TheVariants as step
 use Rattle.glacier_http.specs.Head.{Reads}
-use Rattle.glacier_http.specs.Judged.{closes, content_length}
+use Rattle.glacier_http.specs.Fields.{values_of, length_of_values, number_of, at_most}
+use Rattle.glacier_http.specs.Judged.{pairs, closes, content_length}
 use Rattle.glacier_http.specs.Spans.{IsGood}
 use Rattle.glacier_http.specs.Step.{IsStep}
 use Rattle.glacier_http.specs.Opening.{BeginsHead}
@@ -137,6 +138,24 @@ extends_by bytes spans used left count is used_is left_is = record {
 pub head_fits : (bytes : List ℕ) (headers : List HeaderSpan) (spans : HeadSpans) → IsStep bytes headers (step.Head spans) → spans.head_length ≤ length bytes
 head_fits bytes headers spans (h, behind, begins, shows) =
     omega (arith, shows.head_length, ap length begins.opening.parts, length-append (print_request h) behind)
+
+-- the length of a body that a head gives is small
+small : (limit : ℕ) (values : List (List ℕ)) (n : ℕ) → limit ≡ 2 ^ 33 → length_of_values values ≡ Some n → n ≤ limit
+small limit [] n is found = let zero_is : Some 0 ≡ Some n = found in let none : 0 ≡ n = cc in omega (arith, none)
+small limit (v ∷ []) n is found = go (number_of 10 v) (ap (λ (k : ℕ). at_most k (number_of 10 v)) is ∙ found)
+  where
+    chosen : (k : ℕ) (b : Bool) → nat_le k limit ≡ b → (if b then Some k else None) ≡ Some n → n ≤ limit
+    chosen k true le at = let same : k ≡ n = cc in subst (λ (j : ℕ). j ≤ limit) same (leb-true k limit le)
+    chosen k false le at = absurd (cc)
+
+    go : (o : Option ℕ) → at_most limit o ≡ Some n → n ≤ limit
+    go None at = absurd (cc)
+    go (Some k) at = chosen k (nat_le k limit) refl at
+small limit (v ∷ w ∷ values) n is found = absurd (cc)
+
+pub content_small : (bytes : List ℕ) (headers : List HeaderSpan) (spans : HeadSpans) → IsStep bytes headers (step.Head spans) → spans.content_length ≤ 2 ^ 33
+content_small bytes headers spans (h, behind, begins, shows) =
+    small (2 ^ 33) (values_of (codes "content-length") (pairs h)) spans.content_length refl shows.content_length
 
 module _ (config : Config) (n : ℕ) (bytes : List ℕ) (headers : List HeaderSpan) (spans : HeadSpans) (used left : ℕ) (reading : ℕ) (state : State)
     (is : IsStep bytes headers (step.Head spans)) (extends : Extends bytes spans used left) where

@@ -1,5 +1,5 @@
 // Answering one message.
-ghost use Rattle.std.specs.Prelude.{◌≡◌, ◌≢◌, ◌+◌, ◌++◌, [], ◌∷◌, ◌==◌, ◌<◌, ◌≤◌, ℕ, List, IsTrue, Option, Some, None, length, take, true, false, IfOk, OnOk, OnErr, if◌then◌else◌};
+ghost use Rattle.std.specs.Prelude.{◌≡◌, ◌≢◌, ◌+◌, ◌++◌, [], ◌∷◌, ◌==◌, ◌<◌, ◌≤◌, ◌^◌, ℕ, List, IsTrue, Option, Some, None, length, take, true, false, IfOk, OnOk, OnErr, if◌then◌else◌};
 ghost use Rattle.httparse.specs.Grammar.{RequestHead};
 ghost use Rattle.glacier_base.specs.Outside.{HasRisen};
 ghost use Rattle.glacier_http.specs.Head.{Reads};
@@ -196,6 +196,7 @@ pub fn answer<S: Station>(
 ) -> Result<Option<End>, Memory>
     requires connected { S.is_connected station.old ≡ true }
     requires good { IsStep desk.old.unread desk.old.head (step.Head spans.now) }
+    requires small { spans.now.content_length ≤ 2 ^ 33 }
     requires below { count < 1000 }
     ensures turn { IsTrue S.tells → IfOk result (λ end. (got sent moments : List ℕ) × Moves S.connections S.readings station.old station.new got sent moments
         × IsTurn config.now count (desk.old.unread ++ got) desk.new.unread store.old store.new sent moments (current (S.connections station.new)).coming end) }

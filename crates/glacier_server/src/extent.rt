@@ -27,6 +27,7 @@ fn bytes_here(length: u64, have: usize) -> usize
 pub fn extent_of(spans: &HeadSpans, count: usize) -> Extent
     requires { spans.now.head_length ≤ count }
     ensures used { result.used ≡ spans.now.head_length + min spans.now.content_length (count - spans.now.head_length) }
+    ensures within { result.used ≤ count }
     ensures left { result.left ≡ spans.now.content_length - min spans.now.content_length (count - spans.now.head_length) }
 {
     let head = spans.head_length as usize;

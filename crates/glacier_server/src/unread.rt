@@ -103,7 +103,8 @@ impl Unread {
 
     /// How many there are.
     pub fn count(&self) -> usize
-        ensures { result ≡ length self.now }
+        ensures same { result ≡ length self.now }
+        ensures few { result ≤ 16384 }
     {
         self.end - self.start
     }

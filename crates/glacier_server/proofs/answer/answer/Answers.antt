@@ -12,17 +12,17 @@ use Rattle.glacier_server.proofs.answer.answer.Goals as goal
 
 pub extent_of-extent-requires : goal.extent_of-extent-requires
 extent_of-extent-requires g c =
-    subst (λ (k : ℕ). c.args.spans.now.head_length ≤ k) (sym c.count-length.ensures) (head_fits c.args.desk.now.unread c.args.desk.now.head c.args.spans.now c.requires.good)
+    subst (λ (k : ℕ). c.args.spans.now.head_length ≤ k) (sym c.count-length.ensures.same) (head_fits c.args.desk.now.unread c.args.desk.now.head c.args.spans.now c.requires.good)
 
-pub send_reply-requires-good : goal.send_reply-requires-good
-send_reply-requires-good g c = good_of c.args.desk.now.unread c.args.desk.now.head c.args.spans.now c.requires.good
+pub send_reply-requires-clause-good : goal.send_reply-requires-clause-good
+send_reply-requires-clause-good g c = good_of c.args.desk.now.unread c.args.desk.now.head c.args.spans.now c.requires.good
 
 pub returns-in-Err-clause-turn : goal.returns-in-Err-clause-turn
 returns-in-Err-clause-turn g c t =
     let bytes : List ℕ = c.args.desk.now.unread in
     let r : ℕ = c.now-reading.result in
     let x = c.extent_of-extent.result in
-    let ext = extends_by bytes c.args.spans.now x.used x.left c.count-length.result c.count-length.ensures c.extent_of-extent.ensures.used c.extent_of-extent.ensures.left in
+    let ext = extends_by bytes c.args.spans.now x.used x.left c.count-length.result c.count-length.ensures.same c.extent_of-extent.ensures.used c.extent_of-extent.ensures.left in
     let rest = c.in-Err.ensures.failed t in (
       rest.0,
       [],
@@ -36,7 +36,7 @@ returns-then-left-gt0-clause-turn g c t =
     let bytes : List ℕ = c.args.desk.now.unread in
     let r : ℕ = c.now-reading.result in
     let x = c.extent_of-extent.result in
-    let ext = extends_by bytes c.args.spans.now x.used x.left c.count-length.result c.count-length.ensures c.extent_of-extent.ensures.used c.extent_of-extent.ensures.left in
+    let ext = extends_by bytes c.args.spans.now x.used x.left c.count-length.result c.count-length.ensures.same c.extent_of-extent.ensures.used c.extent_of-extent.ensures.left in
     let rest = c.in-Ok.ensures.takes t in (
       rest.0,
       [],
@@ -44,7 +44,7 @@ returns-then-left-gt0-clause-turn g c t =
       takes_more g.S.Station.connections g.S.Station.readings c.args.station.now c.now-reading.new.station c.take_rest.new.station [] rest.0 [] (r ∷ []) (c.now-reading.ensures.reads t) rest.2,
       (
         waits c.args.config.now c.args.count bytes c.args.desk.now.head c.args.spans.now x.used x.left r c.args.store.now c.requires.good ext rest.0 c.in-Ok.left rest.1 c.if-left-gt0.true,
-        subst (λ (k : ℕ). cut (k + (x.left - c.in-Ok.left)) ≡ end_of_rest (bytes ++ rest.0)) (sym c.count-length.ensures)
+        subst (λ (k : ℕ). cut (k + (x.left - c.in-Ok.left)) ≡ end_of_rest (bytes ++ rest.0)) (sym c.count-length.ensures.same)
             (cut_is c.args.config.now c.args.count bytes c.args.desk.now.head c.args.spans.now x.used x.left r c.args.store.now c.requires.good ext rest.0 c.in-Ok.left rest.1),
         c.in-Ok.ensures.end t c.if-left-gt0.true,
       ),
@@ -62,7 +62,7 @@ returns-in-Ok-true-clause-turn g c t =
     let s : State = c.args.store.now in
     let r : ℕ = c.now-reading.result in
     let x = c.extent_of-extent.result in
-    let ext = extends_by bytes spans x.used x.left c.count-length.result c.count-length.ensures c.extent_of-extent.ensures.used c.extent_of-extent.ensures.left in
+    let ext = extends_by bytes spans x.used x.left c.count-length.result c.count-length.ensures.same c.extent_of-extent.ensures.used c.extent_of-extent.ensures.left in
     let rest = c.in-Ok.ensures.takes t in
     let got : List ℕ = rest.0 in
     let took = takes_more C R c.args.station.now c.now-reading.new.station c.take_rest.new.station [] got [] (r ∷ []) (c.now-reading.ensures.reads t) rest.2 in
@@ -102,7 +102,7 @@ returns-in-Ok-false-clause-turn g c t =
     let s : State = c.args.store.now in
     let r : ℕ = c.now-reading.result in
     let x = c.extent_of-extent.result in
-    let ext = extends_by bytes spans x.used x.left c.count-length.result c.count-length.ensures c.extent_of-extent.ensures.used c.extent_of-extent.ensures.left in
+    let ext = extends_by bytes spans x.used x.left c.count-length.result c.count-length.ensures.same c.extent_of-extent.ensures.used c.extent_of-extent.ensures.left in
     let rest = c.in-Ok.ensures.takes t in
     let got : List ℕ = rest.0 in
     let took = takes_more C R c.args.station.now c.now-reading.new.station c.take_rest.new.station [] got [] (r ∷ []) (c.now-reading.ensures.reads t) rest.2 in
@@ -141,7 +141,7 @@ returns-in-Err-send_reply-clause-memory g c t =
     let s : State = c.args.store.now in
     let r : ℕ = c.now-reading.result in
     let x = c.extent_of-extent.result in
-    let ext = extends_by bytes spans x.used x.left c.count-length.result c.count-length.ensures c.extent_of-extent.ensures.used c.extent_of-extent.ensures.left in
+    let ext = extends_by bytes spans x.used x.left c.count-length.result c.count-length.ensures.same c.extent_of-extent.ensures.used c.extent_of-extent.ensures.left in
     let rest = c.in-Ok.ensures.takes t in
     let got : List ℕ = rest.0 in
     let took = takes_more C R c.args.station.now c.now-reading.new.station c.take_rest.new.station [] got [] (r ∷ []) (c.now-reading.ensures.reads t) rest.2 in

@@ -9,8 +9,14 @@ use Rattle.glacier_server.specs.Machine.{State}
 use Rattle.glacier_server.specs.Moves.{current}
 use Rattle.glacier_server.specs.Turn.{Waits, IsTurn, Breaks, end_for}
 use Rattle.glacier_server.proofs.MoveLemmas.{then, takes_then, risen_before, risen_after}
+use Rattle.glacier_server.proofs.AnswerLemmas.{content_small}
 use Rattle.glacier_server.proofs.TurnLemmas.{need, other_rest, at_the_end}
 use Rattle.glacier_server.proofs.connection.one_message.Goals as goal
+
+pub answer-requires-clause-small : goal.answer-requires-clause-small
+answer-requires-clause-small g c =
+    content_small c.find_head.new.unread c.find_head.new.room c.in-Ok-Head.spans
+    (subst (λ (f : Found). IsFound c.find_head.new.unread c.find_head.new.room f) c.in-Ok-Head.field-0-is c.in-Ok-Head.ensures.found)
 
 pub returns-in-Ok-clause-turn : goal.returns-in-Ok-clause-turn
 returns-in-Ok-clause-turn g c t =
