@@ -253,6 +253,10 @@ module _ (config : Config) (n : ℕ) (bytes : List ℕ) (headers : List HeaderSp
   pub said : List ℕ → Option End → List ℕ
   said got end = reply config state (Good h (body got)) reading (is_some end)
 
+  pub said_is : (got : List ℕ) (end : Option End) (flag : Bool) → flag ≡ is_some end → reply config state (Good h (body got)) reading flag ≡ said got end
+  unfolding said
+  said_is got end flag at = ap (λ (b : Bool). reply config state (Good h (body got)) reading b) at
+
   end_is : (got : List ℕ) (end : Option End) → end ≡ (if n + 1 == most_messages then Some Bound else if spans.close then Some Closed else None)
       → end_for_some (last_end n (Good h (body got))) ≡ end
   unfolding h

@@ -107,7 +107,7 @@ module _ {S : Type 0} (connections : S → List Connection) (readings : S → Li
   module _ (old start done new : S) (input taken sent moments : List ℕ)
       (accepts : connections start ≡ connections old ++ accepted input ∷ []) (read : readings start ≡ readings old)
       (moves : Moves connections readings start done taken sent moments)
-      (before : List Connection) (last : Connection) (open : connections done ≡ before ++ last ∷ [])
+      (before : List Connection) (last : Connection) (opened : connections done ≡ before ++ last ∷ [])
       (same : connections new ≡ connections done) (read_last : readings new ≡ readings done) where
     c : Connection
     c = current (connections done)
@@ -118,7 +118,7 @@ module _ {S : Type 0} (connections : S → List Connection) (readings : S → Li
     behind : connections new ≡ connections old ++ c ∷ []
     unfolding c
     behind =
-        same ∙ last_is (connections done) before last open
+        same ∙ last_is (connections done) before last opened
         ∙ ap (λ (l : List Connection). l ++ current (connections done) ∷ []) (moves.rest ∙ ap others accepts ∙ others-snoc (connections old) (accepted input))
 
     took : c.taken ≡ taken

@@ -1,5 +1,5 @@
 -- One message more on a connection.
-use Rattle.std.specs.Prelude.{◌≡◌, ℕ, List, [], ◌∷◌, take, Option, Some, None}
+use Rattle.std.specs.Prelude.{◌≡◌, ◌⊎◌, ℕ, List, [], ◌∷◌, take, Option, Some, None}
 use Rattle.httparse.specs.Grammar.{RequestHead}
 use Rattle.glacier_http.specs.Opening.{BeginsHead}
 use Rattle.glacier_http.specs.Messages.{Message, Begins, BeginsNone, InputEnd, closed, cut, refused, bound, last_end, end_of_rest}

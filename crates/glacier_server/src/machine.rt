@@ -1,5 +1,5 @@
 // The machine's reply to each message.
-ghost use Rattle.std.specs.Prelude.{◌≡◌, ℕ, List, Some, length, IfOk, OnOk};
+ghost use Rattle.std.specs.Prelude.{◌≡◌, ℕ, List, Some, length, true, IfOk, OnOk};
 ghost use Rattle.httparse.specs.Grammar.{RequestHead};
 ghost use Rattle.glacier_http.specs.Judged.{content_length};
 ghost use Rattle.glacier_http.specs.View.{text_of};

@@ -7,7 +7,7 @@ use Rattle.glacier_server.specs.Machine.{State, reply, after}
 use Rattle.glacier_server.specs.Moves.{Moves, current}
 use Rattle.glacier_server.specs.Turn.{IsTurn, Breaks}
 use Rattle.glacier_server.proofs.MoveLemmas.{sends_more, takes_more, says, risen_before, risen_after}
-use Rattle.glacier_server.proofs.AnswerLemmas.{Extends, extends_by, head_fits, good_of, h, behind, reads, waits, cut_is, body, body_is, body_length, said, answered, broken}
+use Rattle.glacier_server.proofs.AnswerLemmas.{Extends, extends_by, head_fits, good_of, h, behind, reads, waits, cut_is, body, body_is, body_length, said, said_is, answered, broken}
 use Rattle.glacier_server.proofs.answer.answer.Goals as goal
 
 pub extent_of-extent-requires : goal.extent_of-extent-requires
@@ -75,12 +75,13 @@ returns-in-Ok-true-clause-turn g c t =
     let size = body_length config n bytes headers spans x.used x.left r s c.requires.good ext got sum in
     let length_is = body_is config n bytes headers spans x.used x.left r s c.requires.good ext got sum in
     let flag : c.is_some.result ≡ is_some end = search rules in
+    let same = said_is config n bytes headers spans x.used x.left r s c.requires.good ext got end c.is_some.result flag in
     let ok = ap (λ (b : Bool). Ok b) c.in-Ok-true.field-0-test in
     let sent = c.in-Ok-true.ensures.sent t head more text at length_is size ok in
     let new : c.send_reply.new.store ≡ after config s (Good head text) r = c.in-Ok-true.ensures.store head more text at length_is size in
     let answer : List ℕ = said config n bytes headers spans x.used x.left r s c.requires.good ext got end in
     let all : Moves C R c.take_rest.new.station c.send_reply.new.station [] answer [] =
-    says C R c.take_rest.new.station c.send_reply.new.station [] _ answer [] (ap (λ (b : Bool). reply config s (Good head text) r b) flag) sent in (
+    says C R c.take_rest.new.station c.send_reply.new.station [] _ answer [] same sent in (
       got,
       answer,
       r ∷ [],
@@ -115,12 +116,13 @@ returns-in-Ok-false-clause-turn g c t =
     let size = body_length config n bytes headers spans x.used x.left r s c.requires.good ext got sum in
     let length_is = body_is config n bytes headers spans x.used x.left r s c.requires.good ext got sum in
     let flag : c.is_some.result ≡ is_some end = search rules in
+    let same = said_is config n bytes headers spans x.used x.left r s c.requires.good ext got end c.is_some.result flag in
     let ok = ap (λ (b : Bool). Ok b) c.in-Ok-false.field-0-test in
     let part = c.in-Ok-false.ensures.failed t head more text at length_is size ok in
     let new : c.send_reply.new.store ≡ after config s (Good head text) r = c.in-Ok-false.ensures.store head more text at length_is size in
     let answer : List ℕ = said config n bytes headers spans x.used x.left r s c.requires.good ext got end in
     let all : Moves C R c.take_rest.new.station c.send_reply.new.station [] (take part.0 answer) [] =
-    says C R c.take_rest.new.station c.send_reply.new.station [] _ (take part.0 answer) [] (ap (λ (b : Bool). take part.0 (reply config s (Good head text) r b)) flag) part.1 in (
+    says C R c.take_rest.new.station c.send_reply.new.station [] _ (take part.0 answer) [] (ap (λ (l : List ℕ). take part.0 l) same) part.1 in (
       got,
       take part.0 answer,
       r ∷ [],

@@ -16,7 +16,7 @@ loop-left-preserved g c = record {
   connected = search rules;
   later = grind (arith, c.loop-left.invariant.later, c.in-Ok.ensures.cause);
   sends = search rules;
-  beside = search rules;
+  beside = let p = c.loop-left.invariant.beside in let q = c.take_piece.ensures.beside in (q.0 ∙ p.0, q.1 ∙ p.1, q.2 ∙ p.2, q.3 ∙ p.3, q.4 ∙ p.4);
 }
 
 pub loop-left-init : goal.loop-left-init

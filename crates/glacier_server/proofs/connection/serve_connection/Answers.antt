@@ -1,4 +1,4 @@
-use Rattle.std.proofs.Common.{rules, ◌++◌, [], sym, subst, arith, ℕ, List, None, refl}
+use Rattle.std.proofs.Common.{rules, ◌∙◌, ◌++◌, [], sym, subst, arith, ℕ, List, None, refl}
 use Rattle.std.specs.Prelude.{Option}
 use Rattle.glacier_server.specs.declared.end.End.{End}
 use Rattle.glacier_server.specs.Machine.{State}
@@ -50,7 +50,7 @@ messages-preserved g c = record {
   connected = search rules;
   receives = omega (arith, c.messages.invariant.receives, c.one_message.ensures.receives);
   sends = omega (arith, c.messages.invariant.sends, c.one_message.ensures.sends);
-  beside = search rules;
+  beside = let p = c.messages.invariant.beside in let q = c.one_message.ensures.beside in (q.0 ∙ p.0, q.1 ∙ p.1, q.2 ∙ p.2, q.3 ∙ p.3, q.4 ∙ p.4);
 }
 
 pub returns-in-Ok-Some-clause-served : goal.returns-in-Ok-Some-clause-served

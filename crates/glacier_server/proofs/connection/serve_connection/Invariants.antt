@@ -7,7 +7,7 @@ abbrev pub invariant-messages : goal.invariant-messages
 invariant-messages g l = record {
   below : l.count < 1000;
   so_far : IsTrue g.S.Disk.tells → (taken sent moments : List ℕ) × Moves g.S.Station.connections g.S.Station.readings l.fn.station l.station taken sent moments
-      × SoFar l.fn.config.now l.count taken l.desk.unread sent moments l.initial.store l.store None;
+      × SoFar l.fn.config l.count taken l.desk.unread sent moments l.initial.store l.store None;
   connected : g.S.Station.is_connected l.station ≡ true;
   receives : g.S.Station.receive_faults l.fn.station ≤ g.S.Station.receive_faults l.station;
   sends : g.S.Station.send_faults l.fn.station ≤ g.S.Station.send_faults l.station;

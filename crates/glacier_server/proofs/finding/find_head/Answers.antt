@@ -31,7 +31,7 @@ search-preserved g c = record {
   connected = search rules;
   later = grind (arith, c.search.invariant.later, c.fill.ensures.cause);
   sends = search rules;
-  beside = search rules;
+  beside = let p = c.search.invariant.beside in let q = c.fill.ensures.beside in (q.0 ∙ p.0, q.1 ∙ p.1, q.2 ∙ p.2, q.3 ∙ p.3, q.4 ∙ p.4);
 }
 
 pub returns-in-Ok-false-clause-moves : goal.returns-in-Ok-false-clause-moves

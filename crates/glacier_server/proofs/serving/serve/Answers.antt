@@ -1,4 +1,4 @@
-use Rattle.std.proofs.Common.{rules, ◌≡◌, ◌+◌, ap, sym, subst, ℕ, arith, Bool, refl}
+use Rattle.std.proofs.Common.{rules, ◌∙◌, ◌≡◌, ◌+◌, ap, sym, subst, ℕ, arith, Bool, refl}
 use Rattle.std.specs.Prelude.{if◌then◌else◌}
 use Rattle.glacier_server.specs.Machine.{State}
 use Rattle.glacier_server.specs.Serving.{Serves}
@@ -27,7 +27,7 @@ connections-preserved g c = record {
       c.args.store c.connections.store c.in-Ok-true.after c.connections.count 1 (c.connections.invariant.served t) more;
   listening = search rules;
   free = search rules;
-  names = search rules;
+  names = let p = c.connections.invariant.names in let q = c.serve_next.ensures.names in (q.0 ∙ p.0, q.1 ∙ p.1);
   accepts = omega (arith, c.connections.invariant.accepts, c.serve_next.ensures.accepts);
   receives = omega (arith, c.connections.invariant.receives, c.serve_next.ensures.receives);
   sends = omega (arith, c.connections.invariant.sends, c.serve_next.ensures.sends);

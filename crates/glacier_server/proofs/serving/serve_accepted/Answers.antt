@@ -11,10 +11,10 @@ returns-in-Ok-clause-served g c t old input accepts read come =
     let done = c.serve_connection.new.station in
     let new = c.hang_up.new.self in
     let r = c.in-Ok.ensures.served t in
-    let open = g.met.S.Station.connected_last t done c.serve_connection.ensures.connected in
+    let opened = g.met.S.Station.connected_last t done c.serve_connection.ensures.connected in
     let same : T new ≡ T start = c.hang_up.ensures.told.1 ∙ c.serve_connection.ensures.beside.3 in
     serves_one g.S.Station.connections g.S.Station.readings T c.args.config.now old start done new input r.0 r.1 r.2 accepts read r.3
-    open.0 open.1 open.2 c.hang_up.ensures.told.2 c.hang_up.ensures.told.3 c.args.store _ _ r.4 (c.in-Ok.ensures.read_here t) (c.in-Ok.ensures.send_here t)
+    opened.0 opened.1 opened.2 c.hang_up.ensures.told.2 c.hang_up.ensures.told.3 c.args.store _ _ r.4 (c.in-Ok.ensures.read_here t) (c.in-Ok.ensures.send_here t)
     (come ∙ ap (λ (n : ℕ). 1 + n) (sym same))
 
 pub returns-in-Err-clause-broken : goal.returns-in-Err-clause-broken
@@ -23,7 +23,7 @@ returns-in-Err-clause-broken g c t old input accepts read =
     let done = c.serve_connection.new.station in
     let new = c.hang_up-in-Err.new.self in
     let r = c.in-Err.ensures.memory t in
-    let open = g.met.S.Station.connected_last t done c.serve_connection.ensures.connected in
+    let opened = g.met.S.Station.connected_last t done c.serve_connection.ensures.connected in
     subst (λ (f : ServeFault). Breaks g.S.Station.connections g.S.Station.readings c.args.config.now old new c.args.store f) (sym c.in-Err.ensures.fault)
     (breaks_one g.S.Station.connections g.S.Station.readings g.S.Station.to_come c.args.config.now old start done new input r.0 r.1 r.2 accepts read r.4
-    open.0 open.1 open.2 c.hang_up-in-Err.ensures.told.2 c.hang_up-in-Err.ensures.told.3 c.args.store r.3 r.5)
+    opened.0 opened.1 opened.2 c.hang_up-in-Err.ensures.told.2 c.hang_up-in-Err.ensures.told.3 c.args.store r.3 r.5)
