@@ -1,5 +1,5 @@
 -- Connections that were served, one after another.
-use Rattle.std.proofs.Common.{◌≡◌, ℕ, ◌+◌, ◌-◌, ◌^◌, ◌<◌, ◌≤◌, List, [], ◌∷◌, ◌++◌, length, refl, sym, ap, subst, ◌∙◌, arith, length-append, append-nil, append_assoc}
+use Rattle.std.proofs.Common.{◌≡◌, ℕ, ◌+◌, ◌-◌, ◌^◌, ◌<◌, ◌≤◌, List, [], ◌∷◌, ◌++◌, length, refl, sym, ap, subst, ◌∙◌, arith, lit<, length-append, append-nil, append_assoc}
 use Rattle.std.specs.Prelude.{min}
 use Rattle.glacier_base.specs.Outside.{HasRisen}
 use Rattle.glacier_disk.specs.Network.{Connection, accepted}
@@ -50,7 +50,7 @@ module _ {S : Type 0} (connections : S → List Connection) (readings : S → Li
     moments = [];
     behind = same ∙ sym (append-nil _);
     number = refl;
-    fewer = sym come;
+    fewer = omega (arith, come);
     read = read ∙ sym (append-nil _);
     each = (refl, refl);
   }
@@ -100,7 +100,7 @@ module _ {S : Type 0} (connections : S → List Connection) (readings : S → Li
     moments = [];
     behind = same ∙ sym (append-nil _);
     read = read ∙ sym (append-nil _);
-    till = (state, refl, refl);
+    till = (state, (refl, refl));
   }
 
   -- from an accept to the end of its connection

@@ -4,11 +4,11 @@ use Rattle.glacier_server.specs.Serving.{Serves}
 use Rattle.glacier_server.proofs.ServingLemmas.{serves_none, breaks_accept}
 use Rattle.glacier_server.proofs.serving.serve_next.Goals as goal
 
-pub returns-in-Ok-serve_accepted-clause-served : goal.returns-in-Ok-serve_accepted-clause-served
-returns-in-Ok-serve_accepted-clause-served g c t =
+pub returns-in-Ok-clause-served : goal.returns-in-Ok-clause-served
+returns-in-Ok-clause-served g c t =
     let ok = ap (λ (b : Bool). Ok b) c.in-Ok-true.field-0-test in
     let next = c.in-Ok-true.ensures.next t ok in
-    c.in-Ok-serve_accepted.ensures.served t c.args.station.now next.0 next.1 c.accept.ensures.told.1 (omega (arith, c.in-Ok-true.ensures.fewer t ok))
+    c.in-Ok.ensures.served t c.args.station.now next.0 next.1 c.accept.ensures.told.1 (omega (arith, c.in-Ok-true.ensures.fewer t ok))
 
 pub returns-in-Err-serve_accepted-clause-broken : goal.returns-in-Err-serve_accepted-clause-broken
 returns-in-Err-serve_accepted-clause-broken g c t =
