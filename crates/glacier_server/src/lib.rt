@@ -13,6 +13,8 @@ mod machine;
 mod moves;
 mod serving;
 mod store;
+#[cfg(test)]
+mod tests;
 mod unread;
 
 pub use config::Config;
