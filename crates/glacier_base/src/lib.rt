@@ -1,4 +1,4 @@
-//! What all crates share: names, moments and digests, small owned lists, and the traits of the outside.
+//! What all crates share: names, moments and digests, small owned lists and maps, and the traits of the outside.
 #![tactic(auto)]
 
 mod account;

@@ -13,3 +13,4 @@ pub mod TapeSteps
 pub mod ReadingLemmas
 pub mod Tears
 pub mod Synced
+pub mod Stops

@@ -18,7 +18,8 @@ fn end_of(at: u64, size: usize) -> Option<usize>
 
 // Fills up with zeros.
 fn lengthen(content: &mut Vec<u8>, end: usize) -> Result<(), Memory>
-    ensures ok { OnOk result (content.new.items ≡ content.old.items ++ replicate (end - length content.old.items) 0) }
+    ensures ok { OnOk result (content.new.items ≡ content.old.items ++ replicate
+        (end - length content.old.items) 0) }
     ensures err { OnErr result (content.new.items ≡ content.old.items) }
 {
     if content.len() < end {
@@ -30,7 +31,8 @@ fn lengthen(content: &mut Vec<u8>, end: usize) -> Result<(), Memory>
 // Writes over what is there.
 fn overwrite(place: &mut [u8], start: usize, bytes: &[u8])
     requires { start + length bytes.now ≤ length place.old }
-    ensures { place.new ≡ take start place.old ++ bytes.now ++ drop (start + length bytes.now) place.old }
+    ensures { place.new ≡ take start place.old ++ bytes.now ++ drop (start + length bytes.now)
+        place.old }
 {
     place[start..start + bytes.len()].copy_from_slice(bytes);
 }

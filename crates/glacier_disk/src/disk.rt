@@ -67,7 +67,8 @@ pub trait Disk {
     /// Fills `into` whole, with 0 for the places past the area's end.
     fn read(&mut self, area: Area, at: u64, into: &mut [u8]) -> Result<(), Failed>
         requires { is_open self.old ≡ true }
-        ensures bytes { IsTrue tells → OnOk result (into.new ≡ window (reads self.old area) at (length into.old)) }
+        ensures bytes { IsTrue tells → OnOk result (into.new ≡ window (reads self.old area) at
+            (length into.old)) }
         ensures opened { is_open self.new ≡ true }
         ensures rests { IsTrue tells → Rests moment left leaves reads self.old self.new }
         ensures alone { by_disk self.old self.new }
@@ -78,10 +79,17 @@ pub trait Disk {
     fn write_at(&mut self, area: Area, at: u64, bytes: &[u8]) -> Result<(), Failed>
         requires open { is_open self.old ≡ true }
         requires room { at + length bytes.now < 2 ^ 63 }
-        ensures written { IsTrue tells → OnOk result (Becomes area (put at bytes.now (reads self.old area)) (reads self.old) (reads self.new)) }
-        ensures part { IsTrue tells → OnErr result (TornWrite area (min at (length (reads self.old area))) (at + length bytes.now) (reads self.old) (reads self.new)) }
-        ensures crash { IsTrue tells → Follows (TornWrite area (min at (length (reads self.old area))) (at + length bytes.now)) (leaves self.old) (leaves self.new) }
-        ensures time { IsTrue tells → Elapses (moment self.old) (moment self.new) (left self.old) (left self.new) (leaves self.new) }
+        ensures written { IsTrue tells → OnOk result
+            (Becomes area (put at bytes.now (reads self.old area)) (reads self.old)
+            (reads self.new)) }
+        ensures part { IsTrue tells → OnErr result
+            (TornWrite area (min at (length (reads self.old area))) (at + length bytes.now)
+            (reads self.old) (reads self.new)) }
+        ensures crash { IsTrue tells → Follows (TornWrite area
+            (min at (length (reads self.old area))) (at + length bytes.now)) (leaves self.old)
+            (leaves self.new) }
+        ensures time { IsTrue tells → Elapses (moment self.old) (moment self.new) (left self.old)
+            (left self.new) (leaves self.new) }
         ensures opened { is_open self.new ≡ true }
         ensures alone { by_disk self.old self.new }
         ensures planned { IsTrue tells → Contains (plan self.old) (moment self.old) → IsErr result }
@@ -90,11 +98,16 @@ pub trait Disk {
     /// Cuts an area to a length that is at most its own.
     fn cut(&mut self, area: Area, length: u64) -> Result<(), Failed>
         requires open { is_open self.old ≡ true }
-        requires within { IsTrue tells → length ≤ Rattle.std.specs.Prelude.length (reads self.old area) }
-        ensures cut { IsTrue tells → OnOk result (Becomes area (take length (reads self.old area)) (reads self.old) (reads self.new)) }
-        ensures part { IsTrue tells → OnErr result (TornCut area length (reads self.old) (reads self.new)) }
-        ensures crash { IsTrue tells → Follows (TornCut area length) (leaves self.old) (leaves self.new) }
-        ensures time { IsTrue tells → Elapses (moment self.old) (moment self.new) (left self.old) (left self.new) (leaves self.new) }
+        requires within { IsTrue tells → length ≤ Rattle.std.specs.Prelude.length
+            (reads self.old area) }
+        ensures cut { IsTrue tells → OnOk result (Becomes area (take length (reads self.old area))
+            (reads self.old) (reads self.new)) }
+        ensures part { IsTrue tells → OnErr result
+            (TornCut area length (reads self.old) (reads self.new)) }
+        ensures crash { IsTrue tells → Follows (TornCut area length) (leaves self.old)
+            (leaves self.new) }
+        ensures time { IsTrue tells → Elapses (moment self.old) (moment self.new) (left self.old)
+            (left self.new) (leaves self.new) }
         ensures opened { is_open self.new ≡ true }
         ensures alone { by_disk self.old self.new }
         ensures planned { IsTrue tells → Contains (plan self.old) (moment self.old) → IsErr result }
@@ -114,23 +127,28 @@ pub trait Disk {
     ghost reads_left: { IsTrue tells → (disk : Self) → leaves disk (reads disk) };
 
     /// This moment is one of those since an earlier one.
-    ghost counts_now: { IsTrue tells → (disk : Self) (t : ℕ) (i : Image) → t ≤ moment disk → leaves disk i → left disk t i };
+    ghost counts_now: { IsTrue tells → (disk : Self) (t : ℕ) (i : Image) → t ≤ moment disk →
+        leaves disk i → left disk t i };
 
     /// Since this moment there is no other.
-    ghost only_now: { IsTrue tells → (disk : Self) (i : Image) → left disk (moment disk) i → leaves disk i };
+    ghost only_now: { IsTrue tells → (disk : Self) (i : Image) → left disk (moment disk) i →
+        leaves disk i };
 
     ghost by_disk_self: { (disk : Self) → by_disk disk disk };
 
-    ghost by_disk_joins: { (first second third : Self) → by_disk first second → by_disk second third → by_disk first third };
+    ghost by_disk_joins: { (first second third : Self) → by_disk first second →
+        by_disk second third → by_disk first third };
 
     ghost by_disk_moment: { (old new : Self) → by_disk old new → moment old ≤ moment new };
 
     ghost by_disk_faults: { (old new : Self) → by_disk old new → disk_faults old ≤ disk_faults new };
 
-    ghost by_disk_open: { (old new : Self) → by_disk old new → is_open old ≡ true → is_open new ≡ true };
+    ghost by_disk_open: { (old new : Self) → by_disk old new → is_open old ≡ true →
+        is_open new ≡ true };
 
     /// An open disk is not opened again, so it learns no name.
-    ghost by_disk_folders: { (old new : Self) → by_disk old new → is_open old ≡ true → folders new ≡ folders old };
+    ghost by_disk_folders: { (old new : Self) → by_disk old new → is_open old ≡ true →
+        folders new ≡ folders old };
 
     ghost by_disk_plan: { (old new : Self) → by_disk old new → plan new ≡ plan old };
 }

@@ -30,7 +30,11 @@ impl<R: Files<File = File> + Net + Clock + Drop> Disk for HostStation<R> {
 
     ghost left = { λ h t i. Unit {0} };
 
-    ghost by_disk = { λ old new. (old.disk_faults ≤ new.disk_faults) × (is_some old.folder ≡ true → is_some new.folder ≡ true) × (is_some new.listener ≡ is_some old.listener) × (is_some new.stream ≡ is_some old.stream) × (new.accept_faults ≡ old.accept_faults) × (new.receive_faults ≡ old.receive_faults) × (new.send_faults ≡ old.send_faults) };
+    ghost by_disk = { λ old new. (old.disk_faults ≤ new.disk_faults)
+        × (is_some old.folder ≡ true → is_some new.folder ≡ true)
+        × (is_some new.listener ≡ is_some old.listener)
+        × (is_some new.stream ≡ is_some old.stream) × (new.accept_faults ≡ old.accept_faults)
+        × (new.receive_faults ≡ old.receive_faults) × (new.send_faults ≡ old.send_faults) };
 
     ghost reads_left = { λ told h. tt };
 
@@ -38,9 +42,27 @@ impl<R: Files<File = File> + Net + Clock + Drop> Disk for HostStation<R> {
 
     ghost only_now = { λ told h i left. tt };
 
-    ghost by_disk_self = { λ h. (Prim.omega arith, λ is. is, λ k. is_some h.listener, λ k. is_some h.stream, λ k. h.accept_faults, λ k. h.receive_faults, λ k. h.send_faults) };
+    ghost by_disk_self = { λ h. (
+      Prim.omega arith,
+      λ is. is,
+      λ k. is_some h.listener,
+      λ k. is_some
+          h.stream,
+      λ k. h.accept_faults,
+      λ k. h.receive_faults,
+      λ k. h.send_faults,
+    ) };
 
-    ghost by_disk_joins = { λ a b c first second. (Prim.omega (arith, first.0, second.0), λ is. second.1 (first.1 is), second.2 ∙ first.2, second.3 ∙ first.3, second.4 ∙ first.4, second.5 ∙ first.5, second.6 ∙ first.6) };
+    ghost by_disk_joins = { λ a b c first second. (
+      Prim.omega (arith, first.0, second.0),
+      λ is.
+          second.1 (first.1 is),
+      second.2 ∙ first.2,
+      second.3 ∙ first.3,
+      second.4 ∙ first.4,
+      second.5 ∙ first.5,
+      second.6 ∙ first.6,
+    ) };
 
     ghost by_disk_moment = { λ old new alone. Prim.omega arith };
 

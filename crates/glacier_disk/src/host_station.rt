@@ -57,7 +57,8 @@ impl<R: Files<File = File> + Net + Clock + Drop> Station for HostStation<R> {
 
     ghost by_disk_left = { λ told old new t i sent alone le with. inl with };
 
-    ghost by_disk_left_back = { λ told old new t i sent alone le case. ⊎_elim (λ with. with) (λ since. since.1) case };
+    ghost by_disk_left_back = { λ told old new t i sent alone le case. ⊎_elim (λ with. with)
+        (λ since. since.1) case };
 
     fn listen(&mut self, at: &str) -> Result<(), Failed> {
         let bound = bind(&self.rt, at);

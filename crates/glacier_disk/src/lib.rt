@@ -25,6 +25,8 @@ mod readings;
 mod record;
 mod replay;
 mod station;
+#[cfg(test)]
+mod stop_tests;
 mod stopped;
 mod tape;
 

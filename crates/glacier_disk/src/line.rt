@@ -32,7 +32,8 @@ impl Line {
     pub(crate) fn take(&mut self, into: &mut [u8], limit: usize) -> usize
         requires { 0 < limit }
         ensures within { result ≤ length into.old }
-        ensures takes { Takes (take result into.new) (connection_of self.old) (connection_of self.new) }
+        ensures takes { Takes (take result into.new) (connection_of self.old)
+            (connection_of self.new) }
         ensures end { 0 < length into.old → result ≡ 0 → (connection_of self.new).coming ≡ [] }
     {
         let input = self.input.bytes();

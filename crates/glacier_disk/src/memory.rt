@@ -116,7 +116,8 @@ impl MemStation {
 
     /// A reading more, behind those that are planned. A last reading that was given again has used up no place.
     pub fn add_moment(&mut self, moment: Moment) -> Result<(), Memory>
-        ensures ok { OnOk result (readings_to_come self.new ≡ readings_to_come self.old ++ moment ∷ []) }
+        ensures ok { OnOk result (readings_to_come self.new ≡ readings_to_come
+            self.old ++ moment ∷ []) }
         ensures err { OnErr result (readings_to_come self.new ≡ readings_to_come self.old) }
         ensures inputs { inputs_of self.new ≡ inputs_of self.old }
         ensures same { SameBesidePlan self.old self.new }

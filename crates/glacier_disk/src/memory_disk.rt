@@ -31,7 +31,11 @@ impl Disk for MemStation {
 
     ghost left = { λ m t i. LeftSince (first_of m) (calls_of m) t i };
 
-    ghost by_disk = { λ old new. Grows (first_of old) (first_of new) (calls_of old) (calls_of new) × (old.disk_faults ≤ new.disk_faults) × (old.open ≡ true → (new.open ≡ true) × (new.folders ≡ old.folders)) × (new.port ≡ old.port) × (new.tape.past ≡ old.tape.past) × (new.tape.last ≡ old.tape.last) × (plan_of new ≡ plan_of old) };
+    ghost by_disk = { λ old new. Grows (first_of old) (first_of new) (calls_of old) (calls_of new)
+        × (old.disk_faults ≤ new.disk_faults)
+        × (old.open ≡ true → (new.open ≡ true) × (new.folders ≡ old.folders))
+        × (new.port ≡ old.port) × (new.tape.past ≡ old.tape.past)
+        × (new.tape.last ≡ old.tape.last) × (plan_of new ≡ plan_of old) };
 
     ghost reads_left = { λ told m. reads_at (first_of m) (reads_of m) (calls_of m) m.tape.replays };
 
@@ -39,11 +43,32 @@ impl Disk for MemStation {
 
     ghost only_now = { λ told m i since. only (first_of m) (calls_of m) i since };
 
-    ghost by_disk_self = { λ m. (grows_self (first_of m) (calls_of m), Prim.omega arith, λ is. (is, refl), refl, refl, refl, refl) };
+    ghost by_disk_self = { λ m. (
+      grows_self (first_of m) (calls_of m),
+      Prim.omega arith,
+      λ is.
+          (is, refl),
+      refl,
+      refl,
+      refl,
+      refl,
+    ) };
 
-    ghost by_disk_joins = { λ a b c first second. (grows_joins (first_of a) (first_of b) (first_of c) (calls_of a) (calls_of b) (calls_of c) first.0 second.0, Prim.omega (arith, first.1, second.1), λ is. let one = first.2 is in let two = second.2 one.0 in (two.0, two.1 ∙ one.1), second.3 ∙ first.3, second.4 ∙ first.4, second.5 ∙ first.5, second.6 ∙ first.6) };
+    ghost by_disk_joins = { λ a b c first second. (
+      grows_joins (first_of a) (first_of b)
+          (first_of c) (calls_of a) (calls_of b) (calls_of c) first.0 second.0,
+      Prim.omega
+          (arith, first.1, second.1),
+      λ is. let one = first.2 is in let two = second.2 one.0 in
+          (two.0, two.1 ∙ one.1),
+      second.3 ∙ first.3,
+      second.4 ∙ first.4,
+      second.5 ∙ first.5,
+      second.6 ∙ first.6,
+    ) };
 
-    ghost by_disk_moment = { λ old new alone. grows_length (first_of old) (first_of new) (calls_of old) (calls_of new) alone.0 };
+    ghost by_disk_moment = { λ old new alone. grows_length (first_of old) (first_of new)
+        (calls_of old) (calls_of new) alone.0 };
 
     ghost by_disk_faults = { λ old new alone. alone.1 };
 

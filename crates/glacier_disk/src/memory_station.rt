@@ -1,9 +1,11 @@
 // The network and the clock of a station in memory.
-ghost use Rattle.std.specs.Prelude.{◌≡◌, ◌++◌, [], ◌∷◌, length, drop, is_some};
+ghost use Rattle.std.specs.Prelude.{◌≡◌, ◌+◌, ◌++◌, [], ◌∷◌, List, ℕ, length, drop, is_some, true, false, OnErr, IsErr};
+ghost use Rattle.std.specs.List.{Contains};
+ghost use Rattle.glacier_base.specs.Outside.{HasCause};
 ghost use Rattle.std.proofs.Common.{ap, ◌∙◌};
 ghost use Rattle.glacier_disk.specs.Calls.{RestsWith, SameDisk};
-ghost use Rattle.glacier_disk.specs.Memory.{inputs_of, readings_of, readings_to_come, connections_of, addresses_of, folders_of, plan_of, disk_faults_of, accept_faults_of, receive_faults_of, send_faults_of, is_open, is_listening, is_connected};
-ghost use Rattle.glacier_disk.specs.Network.{AllSent};
+ghost use Rattle.glacier_disk.specs.Memory.{calls_of, inputs_of, readings_of, readings_to_come, connections_of, addresses_of, folders_of, plan_of, disk_faults_of, accept_faults_of, receive_faults_of, send_faults_of, is_open, is_listening, is_connected};
+ghost use Rattle.glacier_disk.specs.Network.{accepted, AllSent};
 ghost use Rattle.glacier_disk.specs.Readings.{next_reading};
 
 use crate::memory::{piece_at, push_name};
@@ -37,19 +39,37 @@ impl Station for MemStation {
 
     ghost left_with = { λ m t i sent. LeftWith (first_of m) (calls_of m) t i sent };
 
-    ghost with_now = { λ told m i sent with. told_now (first_of m) (calls_of m) (sent_on (connections_of m)) m.tape.sends i sent with };
+    ghost with_now = { λ told m i sent with. told_now (first_of m) (calls_of m)
+        (sent_on (connections_of m)) m.tape.sends i sent with };
 
     ghost connected_last = { λ told m is. last_of m.tape.past.items m.tape.last is };
 
     ghost by_disk_state = { λ old new alone. (ap (λ p. p.listening) alone.3, ap is_some alone.5) };
 
-    ghost by_disk_counts = { λ old new alone. (ap (λ p. p.accept_faults) alone.3, ap (λ p. p.receive_faults) alone.3, ap (λ p. p.send_faults) alone.3) };
+    ghost by_disk_counts = { λ old new alone. (
+      ap (λ p. p.accept_faults) alone.3,
+      ap
+          (λ p. p.receive_faults) alone.3,
+      ap (λ p. p.send_faults) alone.3,
+    ) };
 
-    ghost by_disk_told = { λ old new alone. (ap (λ p. p.addresses) alone.3, ap (λ p. length p.waiting.items) alone.3, ap (λ l. connections_on l.items new.tape.last) alone.4 ∙ ap (λ l. connections_on old.tape.past.items l) alone.5, ap (λ p. p.clock.readings.items) alone.3) };
+    ghost by_disk_told = { λ old new alone. (
+      ap (λ p. p.addresses) alone.3,
+      ap
+          (λ p. length p.waiting.items) alone.3,
+      ap (λ l. connections_on l.items new.tape.last)
+          alone.4 ∙ ap (λ l. connections_on old.tape.past.items l) alone.5,
+      ap
+          (λ p. p.clock.readings.items) alone.3,
+    ) };
 
-    ghost by_disk_left = { λ told old new t i sent alone le with. told_left (first_of old) (calls_of old) (sent_on (connections_of old)) old.tape.sends (first_of new) (calls_of new) alone.0 t i sent le with };
+    ghost by_disk_left = { λ told old new t i sent alone le with. told_left (first_of old)
+        (calls_of old) (sent_on (connections_of old)) old.tape.sends (first_of new)
+        (calls_of new) alone.0 t i sent le with };
 
-    ghost by_disk_left_back = { λ told old new t i sent alone le case. told_left_back (first_of old) (calls_of old) (sent_on (connections_of old)) old.tape.sends (first_of new) (calls_of new) alone.0 t i sent le case };
+    ghost by_disk_left_back = { λ told old new t i sent alone le case. told_left_back (first_of old)
+        (calls_of old) (sent_on (connections_of old)) old.tape.sends (first_of new)
+        (calls_of new) alone.0 t i sent le case };
 
     fn listen(&mut self, at: &str) -> Result<(), Failed> {
         match self.tape.look() {
@@ -71,7 +91,42 @@ impl Station for MemStation {
         }
     }
 
-    fn accept(&mut self) -> Result<bool, Failed> {
+    fn accept(&mut self) -> Result<bool, Failed>
+        requires listening { is_listening self.old ≡ true }
+        requires free { is_connected self.old ≡ false }
+
+        // The input is the next of the plan.
+        ensures input { result ≡ Ok true → (input : List ℕ)
+            × (inputs_of self.old ≡ input ∷ inputs_of self.new)
+            × (connections_of self.new ≡ connections_of self.old ++ accepted input ∷ []) }
+        ensures kept { OnErr result (inputs_of self.new ≡ inputs_of self.old) }
+        ensures readings { readings_to_come self.new ≡ readings_to_come self.old }
+
+        ensures some { result ≡ Ok true → is_connected self.new ≡ true }
+        ensures none { result ≡ Ok false → is_connected self.new ≡ false }
+        ensures err { OnErr result (is_connected self.new ≡ false) }
+        ensures next { result ≡ Ok true → (input : List ℕ)
+            × (connections_of self.new ≡ connections_of self.old ++ accepted input ∷ []) }
+        ensures fewer { result ≡ Ok true → length (inputs_of self.new) + 1 ≡ length
+            (inputs_of self.old) }
+        ensures end { result ≡ Ok false → (length (inputs_of self.old) ≡ 0)
+            × (length (inputs_of self.new) ≡ 0)
+            × (connections_of self.new ≡ connections_of self.old) }
+        ensures failed { OnErr result ((length (inputs_of self.new) ≡ length (inputs_of self.old))
+            × (connections_of self.new ≡ connections_of self.old)) }
+        ensures planned { Contains (plan_of self.old) (length (calls_of self.old)) → IsErr result }
+        ensures cause { HasCause (accept_faults_of self.old) (accept_faults_of self.new) result }
+        ensures state { is_listening self.new ≡ true }
+        ensures told { (addresses_of self.new ≡ addresses_of self.old)
+            × (readings_of self.new ≡ readings_of self.old) }
+        ensures faults { (receive_faults_of self.new ≡ receive_faults_of self.old)
+            × (send_faults_of self.new ≡ send_faults_of self.old) }
+        ensures disk { SameDisk is_open disk_faults_of folders_of plan_of self.old self.new }
+        ensures rests { RestsWith ⟦<MemStation as Disk>⟧.moment ⟦<MemStation as Disk>⟧.left
+            ⟦<MemStation as Disk>⟧.leaves ⟦<MemStation as Disk>⟧.reads
+            ⟦<MemStation as Station>⟧.left_with self.old self.new
+            (AllSent (connections_of self.new)) }
+    {
         if self.port.waiting.is_empty() {
             match self.tape.look() {
                 Ok(()) => Ok(false),
@@ -126,11 +181,19 @@ impl Station for MemStation {
         ensures inputs { inputs_of self.new ≡ inputs_of self.old }
 
         ensures reading { readings_of self.new ≡ readings_of self.old ++ result ∷ [] }
-        ensures state { (is_listening self.new ≡ is_listening self.old) × (is_connected self.new ≡ is_connected self.old) }
-        ensures told { (addresses_of self.new ≡ addresses_of self.old) × (length (inputs_of self.new) ≡ length (inputs_of self.old)) × (connections_of self.new ≡ connections_of self.old) }
-        ensures faults { (accept_faults_of self.new ≡ accept_faults_of self.old) × (receive_faults_of self.new ≡ receive_faults_of self.old) × (send_faults_of self.new ≡ send_faults_of self.old) }
+        ensures state { (is_listening self.new ≡ is_listening self.old)
+            × (is_connected self.new ≡ is_connected self.old) }
+        ensures told { (addresses_of self.new ≡ addresses_of self.old)
+            × (length (inputs_of self.new) ≡ length (inputs_of self.old))
+            × (connections_of self.new ≡ connections_of self.old) }
+        ensures faults { (accept_faults_of self.new ≡ accept_faults_of self.old)
+            × (receive_faults_of self.new ≡ receive_faults_of self.old)
+            × (send_faults_of self.new ≡ send_faults_of self.old) }
         ensures disk { SameDisk is_open disk_faults_of folders_of plan_of self.old self.new }
-        ensures rests { RestsWith ⟦<MemStation as Disk>⟧.moment ⟦<MemStation as Disk>⟧.left ⟦<MemStation as Disk>⟧.leaves ⟦<MemStation as Disk>⟧.reads ⟦<MemStation as Station>⟧.left_with self.old self.new (AllSent (connections_of self.new)) }
+        ensures rests { RestsWith ⟦<MemStation as Disk>⟧.moment ⟦<MemStation as Disk>⟧.left
+            ⟦<MemStation as Disk>⟧.leaves ⟦<MemStation as Disk>⟧.reads
+            ⟦<MemStation as Station>⟧.left_with self.old self.new
+            (AllSent (connections_of self.new)) }
     {
         self.port.clock.now()
     }

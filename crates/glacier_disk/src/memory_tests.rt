@@ -1,14 +1,13 @@
-// Runs over a station in memory. What each leaves was worked out by hand from the rules of the disk.
-ghost use Rattle.std.specs.Prelude.{◌≡◌, ◌≤◌, false, true, length, OnOk};
-ghost use Rattle.glacier_disk.specs.Memory.{calls_of};
+// Planned failures, pieces and readings of a station in memory.
+ghost use Rattle.std.specs.Prelude.{◌≡◌, false, true, OnOk};
 
-use crate::{Area, Disk, MemPlan, MemStation, Station, Torn};
+use crate::{Area, Disk, MemPlan, MemStation, Station};
 use glacier_base::{Failed, List, Memory, Moment, Text};
 use std::alloc::Global;
 use std::test::Fail;
 
 // One input of five bytes, four bytes in the left area, and these failures.
-fn plan(alloc: Global, faults: &[u64]) -> Result<MemPlan, Memory> {
+pub(crate) fn plan(alloc: Global, faults: &[u64]) -> Result<MemPlan, Memory> {
     let mut connections = List::new(alloc);
     connections.push(Text::of(alloc, b"hello")?)?;
     Ok(MemPlan {
@@ -23,146 +22,6 @@ fn plan(alloc: Global, faults: &[u64]) -> Result<MemPlan, Memory> {
         moments: List::new(alloc),
         faults: List::from_vec(faults.to_vec(alloc)?),
     })
-}
-
-// Nine calls, of which seven change what a stop may leave.
-fn change<D: Disk>(disk: &mut D) -> Result<(), Failed>
-    requires { D.is_open disk.old ≡ false }
-{
-    disk.open("here")?;
-    disk.write_at(Area::Left, 2, b"XY")?;
-    disk.sync()?;
-    disk.write_at(Area::Left, 6, b"Z")?;
-    if disk.size(Area::Left)? < 3 {
-        return Err(Failed);
-    }
-    disk.cut(Area::Left, 3)?;
-    disk.write_at(Area::Left, 4, b"q")?;
-    disk.write_at(Area::Blobs, 0, b"p")?;
-    disk.sync()
-}
-
-// Whether a stop after so many calls leaves these bytes in Left and in Blobs, and none elsewhere.
-fn leaves(
-    station: &MemStation,
-    calls: u64,
-    torn: Torn,
-    left: &str,
-    blobs: &str,
-) -> Result<bool, Memory>
-    requires { calls ≤ length (calls_of station.now) }
-{
-    let areas = station.stopped(calls, torn)?;
-    Ok(
-        areas[0].bytes().is_empty()
-            && areas[1].bytes() == left.as_bytes()
-            && areas[2].bytes().is_empty()
-            && areas[3].bytes() == blobs.as_bytes(),
-    )
-}
-
-// A stop after so many calls: Left and Blobs as last synced, as written, and with `#` for what isn't stable.
-#[derive(Drop)]
-struct Stop {
-    calls: u64,
-    left: [&'static str; 3],
-    blobs: [&'static str; 3],
-}
-
-fn agrees(station: &MemStation, stop: &Stop) -> Result<bool, Memory> {
-    if stop.calls > station.calls() {
-        return Ok(false);
-    }
-    if !leaves(station, stop.calls, Torn::Old, stop.left[0], stop.blobs[0])? {
-        return Ok(false);
-    }
-    if !leaves(station, stop.calls, Torn::New, stop.left[1], stop.blobs[1])? {
-        return Ok(false);
-    }
-    leaves(
-        station,
-        stop.calls,
-        Torn::Junk(b'#'),
-        stop.left[2],
-        stop.blobs[2],
-    )
-}
-
-const STOPS: [Stop; 10] = [
-    Stop {
-        calls: 0,
-        left: ["abcd", "abcd", "abcd"],
-        blobs: ["", "", ""],
-    },
-    Stop {
-        calls: 1,
-        left: ["abcd", "abcd", "abcd"],
-        blobs: ["", "", ""],
-    },
-    Stop {
-        calls: 2,
-        left: ["abcd", "abXY", "ab##"],
-        blobs: ["", "", ""],
-    },
-    Stop {
-        calls: 3,
-        left: ["abXY", "abXY", "abXY"],
-        blobs: ["", "", ""],
-    },
-    Stop {
-        calls: 4,
-        left: ["abXY", "abXY\0\0Z", "abXY###"],
-        blobs: ["", "", ""],
-    },
-    Stop {
-        calls: 5,
-        left: ["abXY", "abXY\0\0Z", "abXY###"],
-        blobs: ["", "", ""],
-    },
-    Stop {
-        calls: 6,
-        left: ["abXY", "abX", "abX"],
-        blobs: ["", "", ""],
-    },
-    Stop {
-        calls: 7,
-        left: ["abXY", "abX\0q", "abX##"],
-        blobs: ["", "", ""],
-    },
-    Stop {
-        calls: 8,
-        left: ["abXY", "abX\0q", "abX##"],
-        blobs: ["", "p", "#"],
-    },
-    Stop {
-        calls: 9,
-        left: ["abX\0q", "abX\0q", "abX\0q"],
-        blobs: ["p", "p", "p"],
-    },
-];
-
-// The first of these stops that leaves something else.
-fn first_wrong(station: &MemStation, stops: &[Stop]) -> Result<Option<u64>, Memory> {
-    for stop in stops {
-        if !agrees(station, stop)? {
-            return Ok(Some(stop.calls));
-        }
-    }
-    Ok(None)
-}
-
-fn changed(alloc: Global) -> Result<MemStation, Fail> {
-    let mut station = MemStation::new(alloc, plan(alloc, &[])?)?;
-    change(&mut station)?;
-    Ok(station)
-}
-
-#[test]
-fn a_stop_leaves_what_no_sync_covers(rt: HostRuntime) -> Result<(), Fail> {
-    let station = changed(rt.alloc())?;
-    assert_eq!(rt; station.calls(), 9);
-    assert_eq!(rt; first_wrong(&station, &STOPS)?, None);
-    Ok(())
 }
 
 // Each call that can fail, once.

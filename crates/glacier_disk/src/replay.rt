@@ -38,7 +38,10 @@ fn spoil(
     size: usize,
     byte: u8,
 ) -> Result<(), Memory>
-    ensures { OnOk result (image_of left.new ≡ with_area area (put (min at (length (image_of left.old area))) (replicate (at + size - min at (length (image_of left.old area))) byte) (image_of left.old area)) (image_of left.old)) }
+    ensures { OnOk result (image_of left.new ≡ with_area area
+        (put (min at (length (image_of left.old area)))
+        (replicate (at + size - min at (length (image_of left.old area))) byte)
+        (image_of left.old area)) (image_of left.old)) }
 {
     let start = (at as usize).min(bytes_of(left, area).len());
     let Some(end) = (at as usize).checked_add(size) else {
@@ -112,7 +115,9 @@ pub(crate) fn replay_all_torn(
 ) -> Result<Contents, Memory>
     requires { NoSync calls.now }
     ensures left { IfOk result (λ left. left_from (image_of stable.now) calls.now (image_of left)) }
-    ensures byte { IfOk result (λ left. HasByte byte (image_of stable.now) (after_calls calls.now (image_of stable.now)) (written_by calls.now (image_of stable.now) nowhere) (image_of left)) }
+    ensures byte { IfOk result (λ left. HasByte byte (image_of stable.now)
+        (after_calls calls.now (image_of stable.now))
+        (written_by calls.now (image_of stable.now) nowhere) (image_of left)) }
 {
     let mut left = copied(alloc, stable)?;
     let mut done = 0usize;

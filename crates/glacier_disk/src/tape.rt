@@ -59,10 +59,16 @@ impl Tape {
 
     /// A call that changes nothing, or fails.
     pub(crate) fn look(&mut self) -> Result<(), Failed>
-        ensures still { Still (image_of self.old.first) (image_of self.new.first) self.old.calls.items self.new.calls.items (image_of self.old.now) (image_of self.new.now) }
-        ensures time { PassesWith (image_of self.old.first) (image_of self.new.first) self.old.calls.items self.new.calls.items (AllSent (connections_on self.new.past.items self.new.last)) }
-        ensures grows { Grows (image_of self.old.first) (image_of self.new.first) self.old.calls.items self.new.calls.items }
-        ensures lines { (self.new.past ≡ self.old.past) × (self.new.last ≡ self.old.last) × (self.new.sent ≡ self.old.sent) }
+        ensures still { Still (image_of self.old.first) (image_of self.new.first)
+            self.old.calls.items self.new.calls.items (image_of self.old.now)
+            (image_of self.new.now) }
+        ensures time { PassesWith (image_of self.old.first) (image_of self.new.first)
+            self.old.calls.items self.new.calls.items
+            (AllSent (connections_on self.new.past.items self.new.last)) }
+        ensures grows { Grows (image_of self.old.first) (image_of self.new.first)
+            self.old.calls.items self.new.calls.items }
+        ensures lines { (self.new.past ≡ self.old.past) × (self.new.last ≡ self.old.last)
+            × (self.new.sent ≡ self.old.sent) }
         ensures now { self.new.now ≡ self.old.now }
         ensures planned { Contains self.old.planned (length self.old.calls.items) → IsErr result }
         ensures plan { self.new.planned ≡ self.old.planned }
@@ -71,10 +77,15 @@ impl Tape {
     }
 
     pub(crate) fn sync(&mut self) -> Result<(), Failed>
-        ensures durable { OnOk result (Only (image_of self.old.now) (left_after (image_of self.new.first) self.new.calls.items)) }
-        ensures still { Still (image_of self.old.first) (image_of self.new.first) self.old.calls.items self.new.calls.items (image_of self.old.now) (image_of self.new.now) }
-        ensures grows { Grows (image_of self.old.first) (image_of self.new.first) self.old.calls.items self.new.calls.items }
-        ensures lines { (self.new.past ≡ self.old.past) × (self.new.last ≡ self.old.last) × (self.new.sent ≡ self.old.sent) }
+        ensures durable { OnOk result (Only (image_of self.old.now)
+            (left_after (image_of self.new.first) self.new.calls.items)) }
+        ensures still { Still (image_of self.old.first) (image_of self.new.first)
+            self.old.calls.items self.new.calls.items (image_of self.old.now)
+            (image_of self.new.now) }
+        ensures grows { Grows (image_of self.old.first) (image_of self.new.first)
+            self.old.calls.items self.new.calls.items }
+        ensures lines { (self.new.past ≡ self.old.past) × (self.new.last ≡ self.old.last)
+            × (self.new.sent ≡ self.old.sent) }
         ensures planned { Contains self.old.planned (length self.old.calls.items) → IsErr result }
         ensures plan { self.new.planned ≡ self.old.planned }
     {
@@ -85,12 +96,19 @@ impl Tape {
     }
 
     pub(crate) fn write(&mut self, area: Area, at: u64, bytes: &[u8]) -> Result<(), Failed>
-        ensures written { OnOk result (Becomes area (put at bytes.now (image_of self.old.now area)) (image_of self.old.now) (image_of self.new.now)) }
-        ensures part { OnErr result (TornWrite area (min at (length (image_of self.old.now area))) (at + length bytes.now) (image_of self.old.now) (image_of self.new.now)) }
-        ensures crash { Follows (TornWrite area (min at (length (image_of self.old.now area))) (at + length bytes.now)) (left_after (image_of self.old.first) self.old.calls.items) (left_after (image_of self.new.first) self.new.calls.items) }
-        ensures time { Passes (image_of self.old.first) (image_of self.new.first) self.old.calls.items self.new.calls.items }
-        ensures grows { Grows (image_of self.old.first) (image_of self.new.first) self.old.calls.items self.new.calls.items }
-        ensures lines { (self.new.past ≡ self.old.past) × (self.new.last ≡ self.old.last) × (self.new.sent ≡ self.old.sent) }
+        ensures written { OnOk result (Becomes area (put at bytes.now (image_of self.old.now area))
+            (image_of self.old.now) (image_of self.new.now)) }
+        ensures part { OnErr result (TornWrite area (min at (length (image_of self.old.now area)))
+            (at + length bytes.now) (image_of self.old.now) (image_of self.new.now)) }
+        ensures crash { Follows (TornWrite area (min at (length (image_of self.old.now area)))
+            (at + length bytes.now)) (left_after (image_of self.old.first) self.old.calls.items)
+            (left_after (image_of self.new.first) self.new.calls.items) }
+        ensures time { Passes (image_of self.old.first) (image_of self.new.first)
+            self.old.calls.items self.new.calls.items }
+        ensures grows { Grows (image_of self.old.first) (image_of self.new.first)
+            self.old.calls.items self.new.calls.items }
+        ensures lines { (self.new.past ≡ self.old.past) × (self.new.last ≡ self.old.last)
+            × (self.new.sent ≡ self.old.sent) }
         ensures planned { Contains self.old.planned (length self.old.calls.items) → IsErr result }
         ensures plan { self.new.planned ≡ self.old.planned }
     {
@@ -109,13 +127,21 @@ impl Tape {
     }
 
     pub(crate) fn cut(&mut self, area: Area, length: u64) -> Result<(), Failed>
-        ensures cut { OnOk result (Becomes area (take length (image_of self.old.now area)) (image_of self.old.now) (image_of self.new.now)) }
-        ensures part { OnErr result (TornCut area length (image_of self.old.now) (image_of self.new.now)) }
-        ensures crash { Follows (TornCut area length) (left_after (image_of self.old.first) self.old.calls.items) (left_after (image_of self.new.first) self.new.calls.items) }
-        ensures time { Passes (image_of self.old.first) (image_of self.new.first) self.old.calls.items self.new.calls.items }
-        ensures grows { Grows (image_of self.old.first) (image_of self.new.first) self.old.calls.items self.new.calls.items }
-        ensures lines { (self.new.past ≡ self.old.past) × (self.new.last ≡ self.old.last) × (self.new.sent ≡ self.old.sent) }
-        ensures planned { Contains self.old.planned (Rattle.std.specs.Prelude.length self.old.calls.items) → IsErr result }
+        ensures cut { OnOk result (Becomes area (take length (image_of self.old.now area))
+            (image_of self.old.now) (image_of self.new.now)) }
+        ensures part { OnErr result (TornCut area length (image_of self.old.now)
+            (image_of self.new.now)) }
+        ensures crash { Follows (TornCut area length)
+            (left_after (image_of self.old.first) self.old.calls.items)
+            (left_after (image_of self.new.first) self.new.calls.items) }
+        ensures time { Passes (image_of self.old.first) (image_of self.new.first)
+            self.old.calls.items self.new.calls.items }
+        ensures grows { Grows (image_of self.old.first) (image_of self.new.first)
+            self.old.calls.items self.new.calls.items }
+        ensures lines { (self.new.past ≡ self.old.past) × (self.new.last ≡ self.old.last)
+            × (self.new.sent ≡ self.old.sent) }
+        ensures planned { Contains self.old.planned (Rattle.std.specs.Prelude.length
+            self.old.calls.items) → IsErr result }
         ensures plan { self.new.planned ≡ self.old.planned }
     {
         match note(
@@ -135,13 +161,21 @@ impl Tape {
     pub(crate) fn accept(&mut self, waiting: &mut Vec<Text>) -> Result<(), Failed>
         requires some { 0 < vec_len waiting.old }
         requires free { is_some self.old.last ≡ false }
-        ensures next { OnOk result ((input : List ℕ) × (waiting.old.items ≡ input ∷ waiting.new.items) × (connections_on self.new.past.items self.new.last ≡ connections_on self.old.past.items self.old.last ++ accepted input ∷ [])) }
+        ensures next { OnOk result ((input : List ℕ)
+            × (waiting.old.items ≡ input ∷ waiting.new.items)
+            × (connections_on self.new.past.items self.new.last ≡ connections_on
+            self.old.past.items self.old.last ++ accepted input ∷ [])) }
         ensures last { OnOk result (is_some self.new.last ≡ true) }
         ensures err { OnErr result (waiting.new ≡ waiting.old) }
         ensures none { OnErr result (is_some self.new.last ≡ false) }
-        ensures same { OnErr result (connections_on self.new.past.items self.new.last ≡ connections_on self.old.past.items self.old.last) }
-        ensures still { Still (image_of self.old.first) (image_of self.new.first) self.old.calls.items self.new.calls.items (image_of self.old.now) (image_of self.new.now) }
-        ensures time { PassesWith (image_of self.old.first) (image_of self.new.first) self.old.calls.items self.new.calls.items (AllSent (connections_on self.new.past.items self.new.last)) }
+        ensures same { OnErr result (connections_on self.new.past.items self.new.last
+            ≡ connections_on self.old.past.items self.old.last) }
+        ensures still { Still (image_of self.old.first) (image_of self.new.first)
+            self.old.calls.items self.new.calls.items (image_of self.old.now)
+            (image_of self.new.now) }
+        ensures time { PassesWith (image_of self.old.first) (image_of self.new.first)
+            self.old.calls.items self.new.calls.items
+            (AllSent (connections_on self.new.past.items self.new.last)) }
         ensures planned { Contains self.old.planned (length self.old.calls.items) → IsErr result }
         ensures plan { self.new.planned ≡ self.old.planned }
     {
@@ -161,12 +195,22 @@ impl Tape {
         requires some { is_some self.old.last ≡ true }
         requires limit { 0 < limit }
         ensures within { IfOk result (λ n. n ≤ length into.old) }
-        ensures takes { IfOk result (λ n. OnLast (Takes (take n into.new)) (connections_on self.old.past.items self.old.last) (connections_on self.new.past.items self.new.last)) }
-        ensures end { 0 < length into.old → result ≡ Ok 0 → OnLast (λ from to. to.coming ≡ []) (connections_on self.old.past.items self.old.last) (connections_on self.new.past.items self.new.last) }
-        ensures failed { OnErr result (OnLast TakesNone (connections_on self.old.past.items self.old.last) (connections_on self.new.past.items self.new.last)) }
+        ensures takes { IfOk result (λ n. OnLast (Takes (take n into.new))
+            (connections_on self.old.past.items self.old.last)
+            (connections_on self.new.past.items self.new.last)) }
+        ensures end { 0 < length into.old → result ≡ Ok 0 →
+            OnLast (λ from to. to.coming ≡ []) (connections_on self.old.past.items self.old.last)
+            (connections_on self.new.past.items self.new.last) }
+        ensures failed { OnErr result (OnLast TakesNone
+            (connections_on self.old.past.items self.old.last)
+            (connections_on self.new.past.items self.new.last)) }
         ensures last { is_some self.new.last ≡ true }
-        ensures still { Still (image_of self.old.first) (image_of self.new.first) self.old.calls.items self.new.calls.items (image_of self.old.now) (image_of self.new.now) }
-        ensures time { PassesWith (image_of self.old.first) (image_of self.new.first) self.old.calls.items self.new.calls.items (AllSent (connections_on self.new.past.items self.new.last)) }
+        ensures still { Still (image_of self.old.first) (image_of self.new.first)
+            self.old.calls.items self.new.calls.items (image_of self.old.now)
+            (image_of self.new.now) }
+        ensures time { PassesWith (image_of self.old.first) (image_of self.new.first)
+            self.old.calls.items self.new.calls.items
+            (AllSent (connections_on self.new.past.items self.new.last)) }
         ensures planned { Contains self.old.planned (length self.old.calls.items) → IsErr result }
         ensures plan { self.new.planned ≡ self.old.planned }
     {
@@ -185,12 +229,22 @@ impl Tape {
     /// A send that fails has sent nothing.
     pub(crate) fn send(&mut self, bytes: &[u8]) -> Result<(), Failed>
         requires { is_some self.old.last ≡ true }
-        ensures sends { OnOk result (OnLast (Sends bytes.now) (connections_on self.old.past.items self.old.last) (connections_on self.new.past.items self.new.last)) }
-        ensures failed { OnErr result (OnLast (SendsPart 0 bytes.now) (connections_on self.old.past.items self.old.last) (connections_on self.new.past.items self.new.last)) }
+        ensures sends { OnOk result (OnLast (Sends bytes.now)
+            (connections_on self.old.past.items self.old.last)
+            (connections_on self.new.past.items self.new.last)) }
+        ensures failed { OnErr result (OnLast (SendsPart 0 bytes.now)
+            (connections_on self.old.past.items self.old.last)
+            (connections_on self.new.past.items self.new.last)) }
         ensures last { is_some self.new.last ≡ true }
-        ensures still { Still (image_of self.old.first) (image_of self.new.first) self.old.calls.items self.new.calls.items (image_of self.old.now) (image_of self.new.now) }
-        ensures time { OnOk result (PassesWith (image_of self.old.first) (image_of self.new.first) self.old.calls.items self.new.calls.items (PartSent bytes.now (connections_on self.old.past.items self.old.last))) }
-        ensures no_time { OnErr result (PassesWith (image_of self.old.first) (image_of self.new.first) self.old.calls.items self.new.calls.items (PartSent (take 0 bytes.now) (connections_on self.old.past.items self.old.last))) }
+        ensures still { Still (image_of self.old.first) (image_of self.new.first)
+            self.old.calls.items self.new.calls.items (image_of self.old.now)
+            (image_of self.new.now) }
+        ensures time { OnOk result (PassesWith (image_of self.old.first) (image_of self.new.first)
+            self.old.calls.items self.new.calls.items
+            (PartSent bytes.now (connections_on self.old.past.items self.old.last))) }
+        ensures no_time { OnErr result (PassesWith (image_of self.old.first)
+            (image_of self.new.first) self.old.calls.items self.new.calls.items
+            (PartSent (take 0 bytes.now) (connections_on self.old.past.items self.old.last))) }
         ensures planned { Contains self.old.planned (length self.old.calls.items) → IsErr result }
         ensures plan { self.new.planned ≡ self.old.planned }
     {
@@ -215,7 +269,8 @@ impl Tape {
 
     pub(crate) fn hang_up(&mut self)
         ensures last { is_some self.new.last ≡ false }
-        ensures lines { connections_on self.new.past.items self.new.last ≡ connections_on self.old.past.items self.old.last }
+        ensures lines { connections_on self.new.past.items self.new.last ≡ connections_on
+            self.old.past.items self.old.last }
         ensures calls { self.new.calls ≡ self.old.calls }
         ensures images { (self.new.now ≡ self.old.now) × (self.new.first ≡ self.old.first) }
         ensures plan { self.new.planned ≡ self.old.planned }

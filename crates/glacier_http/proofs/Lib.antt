@@ -7,7 +7,10 @@ pub mod JudgeLemmas
 pub mod NumberLemmas
 pub mod OpeningLemmas
 pub mod PieceLemmas
+pub mod PutLemmas
+pub mod ReadBackLemmas
 pub mod ReadLemmas
+pub mod ResponseLemmas
 pub mod RoomLemmas
 pub mod ScanLemmas
 pub mod ShortestLemmas

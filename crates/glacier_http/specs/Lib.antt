@@ -1,9 +1,13 @@
 pub mod Fields
 pub mod Head
+pub mod Interim
 pub mod Judged
 pub mod Messages
 pub mod Opening
 pub mod Parsed
+pub mod Printed
+pub mod Put
+pub mod ReadBack
 pub mod Spans
 pub mod Step
 pub mod Target

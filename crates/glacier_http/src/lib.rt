@@ -2,13 +2,21 @@
 #![tactic(auto)]
 
 mod bad_head;
+mod expectation;
 mod fields;
 mod head;
 mod head_spans;
 pub mod laws;
+mod lines;
 mod number;
 mod opening;
+mod printing;
+mod put;
 mod reading;
+mod reply;
+pub mod reply_laws;
+#[cfg(test)]
+mod reply_tests;
 mod room;
 mod span;
 mod target;
@@ -17,8 +25,11 @@ mod tests;
 mod tokens;
 
 pub use bad_head::BadHead;
+pub use expectation::interim;
 pub use head::{Find, Head};
 pub use head_spans::{HeadSpans, HeadStep};
+pub use printing::{write_head, write_reply};
 pub use reading::read_head;
+pub use reply::{Field, Kind, Reply};
 pub use room::HeadRoom;
 pub use span::Span;

@@ -1,0 +1,33 @@
+-- How a run ends: its status, and the line that it prints.
+use Rattle.std.specs.Prelude.{◌≡◌, ◌⊎◌, ◌≤◌, ℕ, Bool, IsTrue, List, [], ◌∷◌, ◌++◌, length, take, codes}
+use Rattle.hex.specs.Hex.{encode_lower}
+use Rattle.glacier_cli.specs.declared.ending.Ending.{Ending}
+use Rattle.glacier_cli.specs.declared.ending.Ending.TheVariants.{Done, Usage, FileFault, NoMemory}
+
+-- the status
+abbrev pub status_of : Ending → ℕ
+status_of (Done digest) = 0
+status_of Usage = 2
+status_of FileFault = 3
+status_of NoMemory = 4
+
+-- the status of a run whose line the sink refused
+abbrev pub sink_failed : ℕ
+sink_failed = 7
+
+-- the line: the digest's 64 digits, the usage, or the fault
+abbrev pub line_of : Ending → List ℕ
+line_of (Done digest) = encode_lower digest ++ 10 ∷ []
+line_of Usage = codes "hash [FILE]" ++ 10 ∷ []
+line_of FileFault = codes "file fault" ++ 10 ∷ []
+line_of NoMemory = codes "out of memory" ++ 10 ∷ []
+
+-- a first part of the line was written
+abbrev pub WritesPart : List ℕ → List ℕ → List ℕ → Type 0
+WritesPart line old new = (k : ℕ) × (k ≤ length line) × (new ≡ old ++ take k line)
+
+-- the status is the ending's and its line was written, or the sink failed and a first part of the line was
+abbrev pub Prints : Bool → List ℕ → List ℕ → Type 0 → Ending → ℕ → Type 0
+Prints tells old new sink_fault ending status =
+    ((status ≡ status_of ending) × (IsTrue tells → new ≡ old ++ line_of ending))
+    ⊎ ((status ≡ sink_failed) × sink_fault × (IsTrue tells → WritesPart (line_of ending) old new))

@@ -1,0 +1,7 @@
+pub mod LeafRoots
+pub mod LeavesLemmas
+pub mod RangeLemmas
+pub mod RootsLemmas
+pub mod Stretches
+pub mod TreeLemmas
+pub mod Widths
