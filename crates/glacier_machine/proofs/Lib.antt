@@ -1,0 +1,4 @@
+pub mod Cuts
+pub mod Dates
+pub mod Floats
+pub mod NameLemmas
