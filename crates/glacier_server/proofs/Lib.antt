@@ -3,8 +3,10 @@ mod AnswerLemmas
 mod ListLemmas
 mod MoveLemmas
 mod OutLemmas
+mod ReplyLemmas
 mod RunLemmas
 mod RunOneLemmas
 mod ServingLemmas
 mod StepLemmas
+mod StoreLemmas
 mod TurnLemmas

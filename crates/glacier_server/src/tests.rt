@@ -40,7 +40,7 @@ fn connection_end<S: Station>(alloc: Global, station: &mut S) -> Option<End>
     requires { S.is_connected station.old ≡ true }
 {
     match config() {
-        Some(config) => match serve_connection(alloc, station, Store::empty(), &config) {
+        Some(config) => match serve_connection(alloc, station, Store::empty(alloc), &config) {
             Ok((end, _)) => Some(end),
             Err(_) => None,
         },
@@ -75,7 +75,7 @@ fn serve_some<S: Station>(alloc: Global, station: &mut S) -> Option<u64>
     requires free { S.is_connected station.old ≡ false }
 {
     match config() {
-        Some(config) => match serve(alloc, station, Store::empty(), &config, 9) {
+        Some(config) => match serve(alloc, station, Store::empty(alloc), &config, 9) {
             Ok((count, _)) => Some(count),
             Err(_) => None,
         },
