@@ -1,5 +1,5 @@
 -- An account's state is taken out of the store, and put back.
-use Rattle.std.specs.Prelude.{◌≡◌, ℕ, Bool, true, false, ◌||◌, cond, List, [], ◌∷◌, Option, Some, None, IfSome, unwrap_or}
+use Rattle.std.specs.Prelude.{◌≡◌, ℕ, Bool, true, false, ◌||◌, cond, List, [], ◌∷◌, Option, Some, None, IfSome, unwrap_or, Result, Ok, Err, OnOk, OnErr, max}
 use Rattle.std.specs.Cmp.Lexicographic.{nat_list_cmp_total, slice_cmp}
 use Rattle.std.specs.FinMap as map
 use Rattle.std.specs.Option.{is_some}
@@ -12,17 +12,25 @@ use Rattle.glacier_vault.specs.Account.{empty_account}
 use Rattle.glacier_vault.specs.Lawful.{IsLawful}
 use Rattle.glacier_vault.specs.declared.event.Event.{Event}
 use Rattle.glacier_vault.specs.declared.state.AccountState.{AccountState}
-use Rattle.glacier_machine.specs.Machine.{after_event, after_change}
-use Rattle.glacier_machine.specs.Runs.{Accounts, account_in, after_all, events_of}
+use Rattle.glacier_vault.specs.declared.rules.Rules.{Rules}
+use Rattle.glacier_machine.specs.declared.action.Action.{Action}
+use Rattle.glacier_machine.specs.declared.action.Answer.{Answer}
+use Rattle.glacier_machine.specs.Machine.{step_of, after_event, after_change}
+use Rattle.glacier_machine.specs.Runs.{Accounts, account_in, after_all, events_of, moment_of}
 use Rattle.glacier_server.specs.Machine.{AllLawful}
 
 pub none_lawful : AllLawful map.empty
 none_lawful = if_some-empty (slice_cmp nat_cmp) IsLawful
 
-pub put_lawful : (accounts : Accounts) (k : List ℕ) (state : AccountState) → AllLawful accounts → IsLawful state
+inserted_lawful : (accounts : Accounts) (k : List ℕ) (state : AccountState) → AllLawful accounts → IsLawful state
     → AllLawful (map.insert accounts k state)
-put_lawful accounts k state h l q =
+inserted_lawful accounts k state h l q =
     if_some-insert nat_list_cmp_total bytes_cmp-IsAntisymmetric (λ _. IsLawful) accounts k q state l (h q)
+
+pub put_lawful : {X E : Type 0} (result : Result X E) (old new : Accounts) (k : List ℕ) (state : AccountState)
+    → OnOk result (new ≡ map.insert old k state) → OnErr result (new ≡ old) → AllLawful old → IsLawful state → AllLawful new
+put_lawful (Ok x) old new k state ok err h l = subst AllLawful (sym ok) (inserted_lawful old k state h l)
+put_lawful (Err x) old new k state ok err h l = subst AllLawful (sym err) h
 
 pub taken_lawful : (accounts : Accounts) (k : List ℕ) → AllLawful accounts → AllLawful (map.remove accounts k)
 taken_lawful accounts k h q =
@@ -70,7 +78,7 @@ put_back accounts k None e = take_none accounts k e
 put_back accounts k (Some state) e = put_over accounts k state ∙ put_same accounts k state e
 
 -- what is put back is what the event makes
-pub kept : (accounts : Accounts) (k : List ℕ) (m : ℕ) (event : Option Event)
+kept : (accounts : Accounts) (k : List ℕ) (m : ℕ) (event : Option Event)
     → cond (map.contains_key accounts k || is_some event)
       (map.insert (map.remove accounts k) k (after_change m (account_in accounts k) event)) (map.remove accounts k)
     ≡ after_all accounts (events_of k m event)
@@ -86,3 +94,24 @@ kept accounts k m (Some event) = ap (λ b. cond b (map.insert (map.remove accoun
     right : (b : Bool) → (b || true) ≡ true
     right true = refl
     right false = refl
+
+-- the accounts after a step: its state is taken out, and put back where it was there or has an event
+module _ (accounts : Accounts) (k : List ℕ) (rules : Rules) (action : Action) (reading : ℕ) where
+  abbrev told_at : ℕ → AccountState → Accounts
+  told_at m before = after_all accounts (events_of k m (step_of rules m action before).answer.change.event)
+
+  pub stored : (n : ℕ) (before state : AccountState) (answer : Answer) (keep : Bool) (taken after : Accounts)
+      → taken ≡ map.remove accounts k → before ≡ account_in accounts k → n ≡ max before.last reading
+      → answer ≡ (step_of rules n action before).answer → state ≡ after_change n before answer.change.event
+      → keep ≡ (map.contains_key accounts k || is_some answer.change.event)
+      → after ≡ cond keep (map.insert taken k state) taken
+      → after ≡ told_at (moment_of (account_in accounts k) reading) (account_in accounts k)
+  stored n before state answer keep taken after took was at told left kept_if put =
+      put ∙ ap (λ b. cond b (map.insert taken k state) taken) kept_if
+      ∙ ap (λ t. cond (map.contains_key accounts k || is_some answer.change.event) (map.insert t k state) t) took
+      ∙ ap (λ s. cond (map.contains_key accounts k || is_some answer.change.event) (map.insert (map.remove accounts k) k s) (map.remove accounts k))
+        (left ∙ ap (λ b. after_change n b answer.change.event) was)
+      ∙ kept accounts k n answer.change.event
+      ∙ ap (λ (a : Answer). after_all accounts (events_of k n a.change.event)) told
+      ∙ ap (told_at n) was
+      ∙ ap (λ m. told_at m (account_in accounts k)) (at ∙ ap (λ (b : AccountState). max b.last reading) was)

@@ -1,5 +1,6 @@
 // The machine's reply to each message.
-ghost use Rattle.std.specs.Prelude.{◌≡◌, ℕ, List, Some, true, length as length_of, IfOk, OnOk};
+ghost use Rattle.std.specs.Prelude.{◌≡◌, ℕ, List, Some, true, ◌||◌, length as length_of, IfOk, OnOk};
+ghost use Rattle.std.specs.Option.{is_some};
 ghost use Rattle.httparse.specs.Grammar.{RequestHead};
 ghost use Rattle.glacier_http.specs.Judged.{content_length};
 ghost use Rattle.glacier_http.specs.Messages.{good as Good, bad as Bad};
@@ -13,7 +14,7 @@ use crate::{Config, Store};
 use glacier_base::{Account, Memory, Moment};
 use glacier_http::{BadHead, Head, Reply, write_reply};
 use glacier_machine::{Asked, bad_head_refusal, read_request, refusal_reply, step};
-use glacier_vault::{Refusal, Rules};
+use glacier_vault::{Change, Refusal, Rules};
 use std::alloc::Global;
 
 /// What holds for the requests of an account.
@@ -27,8 +28,15 @@ fn rules_for(config: &Config, account: Account) -> Rules
     }
 }
 
+/// Whether an account is kept: it was there, or it has an event.
+fn is_kept(known: bool, change: &Change) -> bool
+    ensures { result ≡ (known || is_some change.now.event) }
+{
+    known || change.event.is_some()
+}
+
 /// Does what is asked of an account, and keeps what it changes.
-#[tactic(auto, using(crate::proofs::StoreLemmas::kept, crate::proofs::ReplyLemmas::step_reason))]
+#[tactic(auto, using(crate::proofs::ReplyLemmas::step_reason))]
 fn reply_to_asked(
     alloc: Global,
     store: &mut Store,
@@ -44,9 +52,8 @@ fn reply_to_asked(
     let mut state = store.take(alloc, &asked.account);
     let m = state.last.later(reading);
     let answer = step(alloc, &mut state, rules, m, &asked.action)?;
-    if known || answer.change.event.is_some() {
-        store.put(asked.account, state)?;
-    }
+    let keep = is_kept(known, &answer.change);
+    store.put_if(keep, asked.account, state)?;
     Ok(answer.reply)
 }
 

@@ -1,5 +1,5 @@
 // What a server keeps.
-ghost use Rattle.std.specs.Prelude.{◌≡◌, OnOk};
+ghost use Rattle.std.specs.Prelude.{◌≡◌, OnOk, if◌then◌else◌};
 ghost use Rattle.std.specs.FinMap as map;
 ghost use Rattle.glacier_machine.specs.Runs.{account_in};
 ghost use Rattle.glacier_vault.specs.Lawful.{IsLawful};
@@ -58,11 +58,27 @@ impl Store {
         }
     }
 
-    /// Puts the state of an account in. An error is want of memory.
-    pub(crate) fn put(&mut self, account: Account, state: AccountState) -> Result<(), Memory>
+    fn put(&mut self, account: Account, state: AccountState) -> Result<(), Memory>
         requires { IsLawful state }
         ensures { OnOk result (self.new ≡ map.insert self.old account state) }
     {
         self.accounts.insert(account, state)
+    }
+
+    /// Puts the state of an account in, where it is to be kept. An error is want of memory.
+    pub(crate) fn put_if(
+        &mut self,
+        keep: bool,
+        account: Account,
+        state: AccountState,
+    ) -> Result<(), Memory>
+        requires { IsLawful state }
+        ensures { OnOk result (self.new ≡ (if keep then map.insert self.old account state else self.old)) }
+    {
+        if keep {
+            self.put(account, state)
+        } else {
+            Ok(())
+        }
     }
 }
