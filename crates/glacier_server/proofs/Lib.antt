@@ -1,0 +1,12 @@
+mod AllSentLemmas
+mod AnswerLemmas
+mod ListLemmas
+mod MoveLemmas
+mod OutLemmas
+mod ReplyLemmas
+mod RunLemmas
+mod RunOneLemmas
+mod ServingLemmas
+mod StepLemmas
+mod StoreLemmas
+mod TurnLemmas

@@ -1,0 +1,6 @@
+use Rattle.glacier_server.proofs.StepLemmas.{reads}
+use Rattle.glacier_server.proofs.moves.now.Goals as goal
+
+pub returns-clause-reads : goal.returns-clause-reads
+returns-clause-reads g c t =
+    reads g.S.Station.connections g.S.Station.readings c.args.station.now c.now.new.self c.now.result (c.now.ensures.reading t) c.now.ensures.told.2

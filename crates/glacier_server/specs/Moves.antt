@@ -1,0 +1,35 @@
+-- What a stretch of calls did to the connection that was accepted last.
+use Rattle.std.specs.Prelude.{◌≡◌, ℕ, ◌≤◌, ◌-◌, ◌^◌, min, Bool, List, [], ◌∷◌, ◌++◌}
+use Rattle.glacier_disk.specs.Network.{Connection, accepted}
+
+-- the connection that was accepted last
+abbrev pub current : List Connection → Connection
+current [] = accepted []
+current (c ∷ []) = c
+current (c ∷ d ∷ cs) = current (d ∷ cs)
+
+-- those before it
+abbrev pub others : List Connection → List Connection
+others [] = []
+others (c ∷ []) = []
+others (c ∷ d ∷ cs) = c ∷ others (d ∷ cs)
+
+-- the count doesn't fall, up to its type's end
+abbrev pub NotFallen : ℕ → ℕ → Type 0
+NotFallen before now = min before (2 ^ 64 - 1) ≤ now
+
+-- on the last connection these bytes were taken and these were sent, and these readings were taken
+pub record Moves {S : Type 0} (connections : S → List Connection) (readings : S → List ℕ) (old new : S) (taken sent moments : List ℕ) : Type 0 where
+  pub took : (current (connections new)).taken ≡ (current (connections old)).taken ++ taken
+  pub coming : (current (connections old)).coming ≡ taken ++ (current (connections new)).coming
+  pub sent_now : (current (connections new)).sent ≡ (current (connections old)).sent ++ sent
+  pub read : readings new ≡ readings old ++ moments
+  pub rest : others (connections new) ≡ others (connections old)
+  pub receives : NotFallen (current (connections old)).receives_failed (current (connections new)).receives_failed
+  pub sends : NotFallen (current (connections old)).sends_failed (current (connections new)).sends_failed
+
+-- what calls on a connection leave alone: the listener, the names that were told, and what is to come
+abbrev pub SameBeside : {S : Type 0} → (S → Bool) → (S → List (List ℕ)) → (S → List (List ℕ)) → (S → ℕ) → (S → ℕ) → S → S → Type 0
+SameBeside is_listening addresses folders to_come accept_faults old new =
+    (is_listening new ≡ is_listening old) × (addresses new ≡ addresses old) × (folders new ≡ folders old)
+    × (to_come new ≡ to_come old) × (accept_faults new ≡ accept_faults old)

@@ -1,0 +1,35 @@
+-- What is sent for messages at their readings, and the state after them.
+use Rattle.std.specs.Prelude.{◌≡◌, ℕ, ◌+◌, Bool, List, [], ◌∷◌, ◌++◌}
+use Rattle.std.specs.Option.{is_some}
+use Rattle.httparse.specs.Grammar.{RequestHead}
+use Rattle.glacier_http.specs.Opening.{BeginsHead}
+use Rattle.glacier_http.specs.Messages.{Message, good as Good, bad as Bad, last_end}
+use Rattle.glacier_server.specs.declared.config.Config.{Config}
+use Rattle.glacier_server.specs.Machine.{State, reply, after, interim_of}
+
+abbrev pub interim : Message → List ℕ
+interim (Good h body) = interim_of h
+interim (Bad cause) = []
+
+-- what is sent for the message: n stand before it, and the reply says whether it is the last
+abbrev pub told : Config → ℕ → State → Message → ℕ → List ℕ
+told config n state m reading = interim m ++ reply config state m reading (is_some (last_end n m))
+
+-- the state after the messages that have a reading
+unfoldable pub run : Config → State → List Message → List ℕ → State
+run config state [] readings = state
+run config state (m ∷ messages) [] = state
+run config state (m ∷ messages) (r ∷ readings) = run config (after config state m r) messages readings
+
+-- what is sent for them
+unfoldable pub out : Config → ℕ → State → List Message → List ℕ → List ℕ
+out config n state [] readings = []
+out config n state (m ∷ messages) [] = []
+out config n state (m ∷ messages) (r ∷ readings) =
+    told config n state m r ++ out config (n + 1) (after config state m r) messages readings
+
+-- what is sent for a rest that is no whole message: the interim line of its head, where that is good and has a reading
+abbrev pub Tells : List ℕ → List ℕ → List ℕ → Type 0
+Tells rest [] text = text ≡ []
+Tells rest (r ∷ []) text = (h : RequestHead) × (more : List ℕ) × BeginsHead rest h more × (text ≡ interim_of h)
+Tells rest (r ∷ q ∷ readings) text = ⊥

@@ -1,0 +1,245 @@
+// Answering one message.
+ghost use Rattle.std.specs.Prelude.{◌≡◌, ◌≢◌, ◌+◌, ◌++◌, [], ◌∷◌, ◌==◌, ◌<◌, ◌≤◌, ◌^◌, ℕ, List, IsTrue, Option, Some, None, length, take, true, false, IfOk, OnOk, OnErr, if◌then◌else◌};
+ghost use Rattle.httparse.specs.Grammar.{RequestHead};
+ghost use Rattle.glacier_base.specs.Outside.{HasRisen};
+ghost use Rattle.glacier_http.specs.Head.{Reads};
+ghost use Rattle.glacier_http.specs.Judged.{content_length};
+ghost use Rattle.glacier_http.specs.Messages.{good as Good, bad as Bad, Begins, last_end};
+ghost use Rattle.glacier_http.specs.Spans.{IsGood};
+ghost use Rattle.glacier_http.specs.Step.{IsStep};
+ghost use Rattle.glacier_http.specs.declared.head_spans.HeadStep.TheVariants as step;
+ghost use Rattle.glacier_server.specs.Machine.{State, reply as reply_to, after};
+ghost use Rattle.glacier_server.specs.Moves.{Moves, SameBeside, current};
+ghost use Rattle.glacier_server.specs.Turn.{IsTurn, Breaks, end_for_some};
+
+use crate::body::take_rest;
+use crate::end::End;
+use crate::extent::extent_of;
+use crate::machine::{answer_bad, answer_message};
+use crate::moves::{now, send};
+use crate::unread::Unread;
+use crate::{Config, Store};
+use glacier_base::{Memory, Moment};
+use glacier_disk::Station;
+use glacier_http::{BadHead, HeadRoom, HeadSpans};
+use std::alloc::Global;
+
+/// So many messages are answered on a connection.
+const MOST_MESSAGES: u64 = 1000;
+
+/// The room that a connection works in.
+#[derive(Drop)]
+pub struct Desk {
+    pub head: HeadRoom,
+    pub unread: Unread,
+    pub piece: Vec<u8>,
+    ghost some: { length piece.items ≡ 65536 },
+}
+
+impl Desk {
+    /// Takes the memory once: 256 KB.
+    pub fn new(alloc: Global) -> Result<Desk, Memory>
+        ensures { IfOk result (λ desk. desk.unread ≡ []) }
+    {
+        let head = HeadRoom::new(alloc)?;
+        let unread = Unread::new(alloc)?;
+        let piece = vec![in alloc; 0u8; 65_536]?;
+        Ok(Desk {
+            head,
+            unread,
+            piece,
+        })
+    }
+}
+
+/// The end that a bad head makes.
+fn bad_end(count: u64) -> End
+    requires { count < 1000 }
+    ensures end { (cause : _) → end_for_some (last_end count (Bad cause)) ≡ Some result }
+    ensures read { result ≢ End.ReadFault }
+    ensures send { result ≢ End.SendFault }
+{
+    if count + 1 == MOST_MESSAGES {
+        End::Bound
+    } else {
+        End::Refused
+    }
+}
+
+/// The end that a good message makes, if any.
+fn good_end(count: u64, close: bool) -> Option<End>
+    requires { count < 1000 }
+    ensures end { result ≡ (if count + 1 == 1000 then Some End.Bound else if close then Some End.Closed else None) }
+    ensures below { result ≡ None → count + 1 < 1000 }
+{
+    if count + 1 == MOST_MESSAGES {
+        Some(End::Bound)
+    } else if close {
+        Some(End::Closed)
+    } else {
+        None
+    }
+}
+
+/// Answers a bad head, which ends the connection.
+pub fn refuse<S: Station>(
+    alloc: Global,
+    station: &mut S,
+    config: &Config,
+    cause: BadHead,
+    count: u64,
+) -> Result<End, Memory>
+    requires connected { S.is_connected station.old ≡ true }
+    requires below { count < 1000 }
+    ensures turn { IsTrue S.tells → IfOk result (λ end. (sent moments : List ℕ) × Moves S.connections S.readings station.old station.new [] sent moments
+        × ((input left : List ℕ) (state : State) → Begins input (Bad cause) left → IsTurn config.now count input left state state sent moments (current (S.connections station.new)).coming (Some end))) }
+    ensures memory { IsTrue S.tells → OnErr result ((sent moments : List ℕ) × Moves S.connections S.readings station.old station.new [] sent moments
+        × ((input left : List ℕ) (state : State) → Begins input (Bad cause) left → (new : State) × Breaks config.now count input state new sent moments)) }
+    ensures connected { S.is_connected station.new ≡ true }
+    ensures read { IfOk result (λ end. end ≢ End.ReadFault) }
+    ensures send { IfOk result (λ end. end ≡ End.SendFault → HasRisen (S.send_faults station.old) (S.send_faults station.new)) }
+    ensures send_here { IsTrue S.tells → IfOk result (λ end. end ≡ End.SendFault → HasRisen (current (S.connections station.old)).sends_failed (current (S.connections station.new)).sends_failed) }
+    ensures receives { S.receive_faults station.new ≡ S.receive_faults station.old }
+    ensures sends { S.send_faults station.old ≤ S.send_faults station.new }
+    ensures beside { SameBeside S.is_listening S.addresses S.folders S.to_come S.accept_faults station.old station.new }
+{
+    let reading = now(station);
+    let reply = match answer_bad(alloc, config, cause, reading) {
+        Ok(reply) => reply,
+        Err(error) => return Err(error),
+    };
+    match send(station, &reply) {
+        Ok(()) => Ok(bad_end(count)),
+        Err(_) => Ok(End::SendFault),
+    }
+}
+
+/// The reply to the message at the front of the unread bytes, by its head.
+fn reply_of(
+    alloc: Global,
+    desk: &Desk,
+    spans: &HeadSpans,
+    store: &mut Store,
+    config: &Config,
+    reading: Moment,
+    close: bool,
+) -> Result<Vec<u8>, Memory>
+    requires { IsGood desk.now.unread desk.now.head spans.now }
+    ensures reply { (h : RequestHead) (behind body : List ℕ) → Reads desk.now.unread h behind → content_length h ≡ Some (length body)
+        → spans.now.content_length ≡ length body → IfOk result (λ reply. reply.items ≡ reply_to config.now store.old (Good h body) reading close) }
+    ensures store { (h : RequestHead) (behind body : List ℕ) → Reads desk.now.unread h behind → content_length h ≡ Some (length body)
+        → spans.now.content_length ≡ length body → OnOk result (store.new ≡ after config.now store.old (Good h body) reading) }
+{
+    let head = spans.view(desk.unread.bytes(), &desk.head);
+    match answer_message(
+        alloc,
+        store,
+        config,
+        &head,
+        spans.content_length,
+        reading,
+        close,
+    ) {
+        Ok(reply) => Ok(reply),
+        Err(error) => Err(error),
+    }
+}
+
+/// Makes the reply to a good message, and sends it. It answers whether it was sent.
+fn send_reply<S: Station>(
+    alloc: Global,
+    station: &mut S,
+    desk: &Desk,
+    spans: &HeadSpans,
+    store: &mut Store,
+    config: &Config,
+    reading: Moment,
+    close: bool,
+) -> Result<bool, Memory>
+    requires connected { S.is_connected station.old ≡ true }
+    requires good { IsGood desk.now.unread desk.now.head spans.now }
+    ensures sent { IsTrue S.tells → (h : RequestHead) (behind body : List ℕ) → Reads desk.now.unread h behind → content_length h ≡ Some (length body)
+        → spans.now.content_length ≡ length body → result ≡ Ok true →
+        Moves S.connections S.readings station.old station.new [] (reply_to config.now store.old (Good h body) reading close) [] }
+    ensures failed { IsTrue S.tells → (h : RequestHead) (behind body : List ℕ) → Reads desk.now.unread h behind → content_length h ≡ Some (length body)
+        → spans.now.content_length ≡ length body → result ≡ Ok false →
+        (k : ℕ) × Moves S.connections S.readings station.old station.new [] (take k (reply_to config.now store.old (Good h body) reading close)) [] }
+    ensures store { (h : RequestHead) (behind body : List ℕ) → Reads desk.now.unread h behind → content_length h ≡ Some (length body)
+        → spans.now.content_length ≡ length body → OnOk result (store.new ≡ after config.now store.old (Good h body) reading) }
+    ensures memory { IsTrue S.tells → OnErr result (Moves S.connections S.readings station.old station.new [] [] []) }
+    ensures connected { S.is_connected station.new ≡ true }
+    ensures send { result ≡ Ok false → HasRisen (S.send_faults station.old) (S.send_faults station.new) }
+    ensures send_here { IsTrue S.tells → result ≡ Ok false → HasRisen (current (S.connections station.old)).sends_failed (current (S.connections station.new)).sends_failed }
+    ensures receives { S.receive_faults station.new ≡ S.receive_faults station.old }
+    ensures sends { S.send_faults station.old ≤ S.send_faults station.new }
+    ensures beside { SameBeside S.is_listening S.addresses S.folders S.to_come S.accept_faults station.old station.new }
+{
+    let reply = match reply_of(alloc, desk, spans, store, config, reading, close) {
+        Ok(reply) => reply,
+        Err(error) => return Err(error),
+    };
+    match send(station, &reply) {
+        Ok(()) => Ok(true),
+        Err(_) => Ok(false),
+    }
+}
+
+/// Answers the message whose good head stands at the front of the unread bytes.
+pub fn answer<S: Station>(
+    alloc: Global,
+    station: &mut S,
+    desk: &mut Desk,
+    spans: &HeadSpans,
+    count: u64,
+    store: &mut Store,
+    config: &Config,
+) -> Result<Option<End>, Memory>
+    requires connected { S.is_connected station.old ≡ true }
+    requires good { IsStep desk.old.unread desk.old.head (step.Head spans.now) }
+    requires small { spans.now.content_length ≤ 2 ^ 33 }
+    requires below { count < 1000 }
+    ensures turn { IsTrue S.tells → IfOk result (λ end. (got sent moments : List ℕ) × Moves S.connections S.readings station.old station.new got sent moments
+        × IsTurn config.now count (desk.old.unread ++ got) desk.new.unread store.old store.new sent moments (current (S.connections station.new)).coming end) }
+    ensures memory { IsTrue S.tells → OnErr result ((got sent moments : List ℕ) × (new : State) × Moves S.connections S.readings station.old station.new got sent moments
+        × Breaks config.now count (desk.old.unread ++ got) store.old new sent moments) }
+    ensures below { result ≡ Ok None → count + 1 < 1000 }
+    ensures connected { S.is_connected station.new ≡ true }
+    ensures read { IfOk result (λ end. end ≡ Some End.ReadFault → HasRisen (S.receive_faults station.old) (S.receive_faults station.new)) }
+    ensures read_here { IsTrue S.tells → IfOk result (λ end. end ≡ Some End.ReadFault → HasRisen (current (S.connections station.old)).receives_failed (current (S.connections station.new)).receives_failed) }
+    ensures send { IfOk result (λ end. end ≡ Some End.SendFault → HasRisen (S.send_faults station.old) (S.send_faults station.new)) }
+    ensures send_here { IsTrue S.tells → IfOk result (λ end. end ≡ Some End.SendFault → HasRisen (current (S.connections station.old)).sends_failed (current (S.connections station.new)).sends_failed) }
+    ensures receives { S.receive_faults station.old ≤ S.receive_faults station.new }
+    ensures sends { S.send_faults station.old ≤ S.send_faults station.new }
+    ensures beside { SameBeside S.is_listening S.addresses S.folders S.to_come S.accept_faults station.old station.new }
+{
+    let reading = now(station);
+    let length = desk.unread.count();
+    let extent = extent_of(spans, length);
+    let left = match take_rest(station, &mut desk.piece, extent.left) {
+        Ok(left) => left,
+        Err((_, _)) => return Ok(Some(End::ReadFault)),
+    };
+    if left > 0 {
+        return Ok(Some(End::Cut {
+            taken: length as u64 + (extent.left - left),
+        }));
+    }
+    let end = good_end(count, spans.close);
+    match send_reply(
+        alloc,
+        station,
+        desk,
+        spans,
+        store,
+        config,
+        reading,
+        end.is_some(),
+    ) {
+        Ok(true) => {
+            desk.unread.skip(extent.used);
+            Ok(end)
+        }
+        Ok(false) => Ok(Some(End::SendFault)),
+        Err(error) => Err(error),
+    }
+}
