@@ -80,7 +80,7 @@ put_back accounts k (Some state) e = put_over accounts k state ∙ put_same acco
 -- what is put back is what the event makes
 kept : (accounts : Accounts) (k : List ℕ) (m : ℕ) (event : Option Event)
     → cond (map.contains_key accounts k || is_some event)
-      (map.insert (map.remove accounts k) k (after_change m (account_in accounts k) event)) (map.remove accounts k)
+    (map.insert (map.remove accounts k) k (after_change m (account_in accounts k) event)) (map.remove accounts k)
     ≡ after_all accounts (events_of k m event)
 kept accounts k m None = ap (λ b. cond b (map.insert (map.remove accounts k) k (account_in accounts k)) (map.remove accounts k)) (right _)
     ∙ put_back accounts k (map.get accounts k) refl
@@ -110,7 +110,7 @@ module _ (accounts : Accounts) (k : List ℕ) (rules : Rules) (action : Action) 
       put ∙ ap (λ b. cond b (map.insert taken k state) taken) kept_if
       ∙ ap (λ t. cond (map.contains_key accounts k || is_some answer.change.event) (map.insert t k state) t) took
       ∙ ap (λ s. cond (map.contains_key accounts k || is_some answer.change.event) (map.insert (map.remove accounts k) k s) (map.remove accounts k))
-        (left ∙ ap (λ b. after_change n b answer.change.event) was)
+      (left ∙ ap (λ b. after_change n b answer.change.event) was)
       ∙ kept accounts k n answer.change.event
       ∙ ap (λ (a : Answer). after_all accounts (events_of k n a.change.event)) told
       ∙ ap (told_at n) was
