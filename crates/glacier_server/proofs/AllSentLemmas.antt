@@ -1,5 +1,5 @@
 -- What was sent on a connection whose replies were all sent is the output for its bytes.
-use Rattle.std.proofs.Common.{◌≡◌, ℕ, ◌≤◌, ◌⊎◌, List, [], ◌∷◌, ◌++◌, length, drop, Some, None, inl, inr, refl, sym, ap, subst, ◌∙◌, append-nil}
+use Rattle.std.proofs.Common.{◌≡◌, ℕ, List, [], ◌∷◌, ◌++◌, length, drop, inl, inr, refl, sym, ap, subst, ◌∙◌, append-nil}
 use Rattle.std.specs.Prelude.{◌≢◌}
 use Rattle.glacier_http.specs.Messages.{Message, InputEnd, closed, cut, refused, bound, end_of_rest}
 use Rattle.glacier_server.specs.declared.config.Config.{Config}

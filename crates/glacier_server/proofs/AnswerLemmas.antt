@@ -21,10 +21,10 @@ use Rattle.glacier_http.proofs.BeginLemmas.{short_body}
 use Rattle.glacier_http.proofs.OpeningLemmas.{head_more}
 use Rattle.glacier_server.specs.declared.config.Config.{Config}
 use Rattle.glacier_server.specs.declared.end.End.{End}
-use Rattle.glacier_server.specs.declared.end.End.TheVariants.{Closed, Cut, Refused, Bound, ReadFault, SendFault}
+use Rattle.glacier_server.specs.declared.end.End.TheVariants.{Closed, Bound}
 use Rattle.glacier_server.specs.Machine.{State, reply, after}
 use Rattle.glacier_server.specs.Out.{told}
-use Rattle.glacier_server.specs.Turn.{Answers, Waits, Breaks, IsTurn, end_for, end_for_some}
+use Rattle.glacier_server.specs.Turn.{Answers, Waits, Breaks, IsTurn, end_for_some}
 
 -- ---- a message that was answered
 

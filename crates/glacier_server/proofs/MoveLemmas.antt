@@ -1,9 +1,9 @@
 -- Moves of the last connection, one after another.
-use Rattle.std.proofs.Common.{◌≡◌, ℕ, ◌+◌, ◌-◌, ◌^◌, ◌≤◌, List, [], ◌∷◌, ◌++◌, refl, sym, ap, subst, ◌∙◌, arith, append-nil, append_assoc}
+use Rattle.std.proofs.Common.{◌≡◌, ℕ, ◌+◌, ◌-◌, ◌^◌, ◌≤◌, List, [], ◌++◌, refl, sym, ap, subst, ◌∙◌, arith, append-nil, append_assoc}
 use Rattle.std.specs.Prelude.{min}
 use Rattle.glacier_base.specs.Outside.{HasRisen}
 use Rattle.glacier_disk.specs.Network.{Connection}
-use Rattle.glacier_server.specs.Moves.{Moves, NotFallen, current}
+use Rattle.glacier_server.specs.Moves.{Moves, NotFallen}
 
 -- counts up to an end
 stays_up : (a most : ℕ) → min a most ≤ a

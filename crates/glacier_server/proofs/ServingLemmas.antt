@@ -1,5 +1,5 @@
 -- Connections that were served, one after another.
-use Rattle.std.proofs.Common.{◌≡◌, ℕ, ◌+◌, ◌-◌, ◌^◌, ◌<◌, ◌≤◌, List, [], ◌∷◌, ◌++◌, length, refl, sym, ap, subst, ◌∙◌, arith, lit<, length-append, append-nil, append_assoc}
+use Rattle.std.proofs.Common.{◌≡◌, ℕ, ◌+◌, ◌-◌, ◌^◌, ◌<◌, ◌≤◌, List, [], ◌∷◌, ◌++◌, refl, sym, ap, subst, ◌∙◌, arith, lit<, length-append, append-nil, append_assoc}
 use Rattle.std.specs.Prelude.{min}
 use Rattle.glacier_base.specs.Outside.{HasRisen}
 use Rattle.glacier_disk.specs.Network.{Connection, accepted}

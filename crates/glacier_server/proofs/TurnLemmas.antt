@@ -1,11 +1,7 @@
 -- What was found of a head makes a turn.
 use Rattle.std.proofs.Common.{◌≡◌, ℕ, List, [], ◌∷◌, Some, inr, refl}
-use Rattle.httparse.specs.Grammar.{RequestHead}
-use Rattle.httparse.specs.declared.spans.HeaderSpan.{HeaderSpan}
-use Rattle.glacier_http.specs.declared.head_spans.HeadStep.TheVariants as step
-use Rattle.glacier_http.specs.Opening.{BeginsHead, HasNoOpening}
-use Rattle.glacier_http.specs.Step.{IsStep}
-use Rattle.glacier_http.specs.Messages.{Message, good as Good, bad as Bad, Begins, BeginsNone, end_of_rest}
+use Rattle.glacier_http.specs.Opening.{HasNoOpening}
+use Rattle.glacier_http.specs.Messages.{end_of_rest}
 use Rattle.glacier_http.proofs.BeginLemmas.{none_waits}
 use Rattle.glacier_server.specs.declared.config.Config.{Config}
 use Rattle.glacier_server.specs.declared.end.End.{End}

@@ -1,5 +1,5 @@
 -- What is sent for messages at their readings, and the state after them.
-use Rattle.std.specs.Prelude.{◌≡◌, ℕ, ◌+◌, Bool, List, [], ◌∷◌, ◌++◌}
+use Rattle.std.specs.Prelude.{◌≡◌, ℕ, ◌+◌, List, [], ◌∷◌, ◌++◌}
 use Rattle.std.specs.Option.{is_some}
 use Rattle.httparse.specs.Grammar.{RequestHead}
 use Rattle.glacier_http.specs.Opening.{BeginsHead}

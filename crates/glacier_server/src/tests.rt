@@ -2,7 +2,7 @@
 ghost use Rattle.std.specs.Prelude.{◌≡◌, true, false};
 
 use crate::{Config, End, Store, serve, serve_connection};
-use glacier_base::{List, Memory, Region, Text};
+use glacier_base::{List, Memory, Moment, Region, Text};
 use glacier_disk::{MemPlan, MemStation, Station};
 use std::alloc::Global;
 use std::test::Fail;
@@ -17,8 +17,10 @@ fn config() -> Option<Config> {
     }
 }
 
-/// One input, in pieces of at most so many bytes, and these failures.
-fn plan(alloc: Global, input: &[u8], piece: usize, faults: &[u64]) -> Result<MemPlan, Memory> {
+/// One input, in pieces of at most so many bytes, and these failures, where the clock stands at
+/// Friday, 25 May 2012, 00:24:53 UTC.
+pub fn plan(alloc: Global, input: &[u8], piece: usize, faults: &[u64]) -> Result<MemPlan, Memory> {
+    let moment = Moment::new(1_337_905_493).ok_or(Memory)?;
     let mut connections = List::new(alloc);
     connections.push(Text::of(alloc, input)?)?;
     connections.push(Text::of(alloc, b"")?)?;
@@ -31,7 +33,7 @@ fn plan(alloc: Global, input: &[u8], piece: usize, faults: &[u64]) -> Result<Mem
         ],
         connections,
         pieces: List::from_vec(vec![in alloc; piece, 400]?),
-        moments: List::new(alloc),
+        moments: List::from_vec(vec![in alloc; moment]?),
         faults: List::from_vec(faults.to_vec(alloc)?),
     })
 }
@@ -60,7 +62,7 @@ fn accepted_end<S: Station>(alloc: Global, station: &mut S) -> Option<End>
 }
 
 /// How the first connection ends.
-fn first_end<S: Station>(alloc: Global, station: &mut S) -> Option<End>
+pub fn first_end<S: Station>(alloc: Global, station: &mut S) -> Option<End>
     requires listening { S.is_listening station.old ≡ false }
     requires free { S.is_connected station.old ≡ false }
 {

@@ -1,13 +1,13 @@
-use Rattle.std.proofs.Common.{rules, ◌≡◌, ◌∷◌, ◌++◌, ◌≤◌, ◌+◌, ◌-◌, ap, sym, subst, take, drop, [], ℕ, List, Bool, length, arith, Ok, refl}
+use Rattle.std.proofs.Common.{rules, ◌≡◌, ◌∷◌, ◌++◌, ◌≤◌, ◌+◌, ◌-◌, ap, sym, subst, take, [], ℕ, List, Bool, length, arith, Ok}
 use Rattle.std.specs.Prelude.{Option}
 use Rattle.std.specs.Option.{is_some}
 use Rattle.glacier_http.specs.Messages.{cut, end_of_rest, good as Good}
 use Rattle.glacier_server.specs.declared.end.End.{End}
-use Rattle.glacier_server.specs.Machine.{State, reply, after}
+use Rattle.glacier_server.specs.Machine.{State, after}
 use Rattle.glacier_server.specs.Moves.{Moves, current}
 use Rattle.glacier_server.specs.Turn.{IsTurn, Breaks}
-use Rattle.glacier_server.proofs.MoveLemmas.{sends_more, takes_more, says, risen_before, risen_after}
-use Rattle.glacier_server.proofs.AnswerLemmas.{Extends, extends_by, head_fits, good_of, h, behind, reads, waits, cut_is, body, body_is, body_length, said, said_is, answered, broken}
+use Rattle.glacier_server.proofs.MoveLemmas.{sends_more, takes_more, says}
+use Rattle.glacier_server.proofs.AnswerLemmas.{extends_by, head_fits, good_of, h, behind, reads, waits, cut_is, body, body_is, body_length, said, said_is, answered, broken}
 use Rattle.glacier_server.proofs.answer.answer.Goals as goal
 
 pub extent_of-extent-requires : goal.extent_of-extent-requires

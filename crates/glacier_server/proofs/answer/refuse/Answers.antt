@@ -1,9 +1,9 @@
-use Rattle.std.proofs.Common.{◌≡◌, ◌∙◌, ◌∷◌, ap, sym, subst, take, [], ℕ, List, true, Some}
+use Rattle.std.proofs.Common.{◌≡◌, ◌∙◌, ◌∷◌, sym, subst, take, [], ℕ, List, true, Some}
 use Rattle.glacier_http.specs.Messages.{bad as Bad}
 use Rattle.glacier_server.specs.Machine.{State, reply, after}
 use Rattle.glacier_server.specs.Moves.{current}
 use Rattle.glacier_server.specs.Turn.{IsTurn, Breaks}
-use Rattle.glacier_server.proofs.MoveLemmas.{sends_more, says, risen_after}
+use Rattle.glacier_server.proofs.MoveLemmas.{sends_more}
 use Rattle.glacier_server.proofs.AnswerLemmas.{bad_answered, bad_broken}
 use Rattle.glacier_server.proofs.answer.refuse.Goals as goal
 

@@ -1,4 +1,4 @@
-use Rattle.std.proofs.Common.{refl, rules, ◌∙◌, ◌++◌, [], ap, ℕ, arith, length-append, sym}
+use Rattle.std.proofs.Common.{refl, rules, ◌∙◌, ◌++◌, [], arith, length-append}
 use Rattle.glacier_server.proofs.MoveLemmas.{then, stays, takes_then, risen_after}
 use Rattle.glacier_server.proofs.body.take_rest.Goals as goal
 

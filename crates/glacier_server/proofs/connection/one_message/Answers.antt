@@ -1,14 +1,13 @@
 use Rattle.std.proofs.Common.{◌≡◌, ◌∙◌, ◌++◌, [], ap, sym, subst, append_assoc, ℕ, List, Some, Ok}
 use Rattle.glacier_http.specs.Step.{IsStep}
-use Rattle.glacier_http.specs.Messages.{end_of_rest}
 use Rattle.glacier_http.specs.declared.head_spans.HeadStep.TheVariants as step
 use Rattle.glacier_server.specs.declared.end.End.{End}
 use Rattle.glacier_server.specs.declared.finding.Found.{Found}
 use Rattle.glacier_server.specs.Finding.{IsFound}
 use Rattle.glacier_server.specs.Machine.{State}
 use Rattle.glacier_server.specs.Moves.{current}
-use Rattle.glacier_server.specs.Turn.{Waits, IsTurn, Breaks, end_for}
-use Rattle.glacier_server.proofs.MoveLemmas.{then, takes_then, risen_before, risen_after}
+use Rattle.glacier_server.specs.Turn.{Waits, IsTurn, Breaks}
+use Rattle.glacier_server.proofs.MoveLemmas.{then, takes_then, risen_after}
 use Rattle.glacier_server.proofs.AnswerLemmas.{content_small}
 use Rattle.glacier_server.proofs.TurnLemmas.{need, other_rest, at_the_end}
 use Rattle.glacier_server.proofs.connection.one_message.Goals as goal

@@ -4,7 +4,7 @@ use Rattle.glacier_server.specs.declared.end.End.{End}
 use Rattle.glacier_server.specs.Machine.{State}
 use Rattle.glacier_server.specs.Moves.{current}
 use Rattle.glacier_server.specs.Turn.{IsTurn, Answers}
-use Rattle.glacier_server.proofs.MoveLemmas.{stays, then, risen_after}
+use Rattle.glacier_server.proofs.MoveLemmas.{stays, then}
 use Rattle.glacier_server.proofs.RunLemmas.{SoFar, nothing, goes_on, breaks, served, part_none}
 use Rattle.glacier_server.proofs.connection.serve_connection.Goals as goal
 

@@ -1,6 +1,5 @@
-use Rattle.std.proofs.Common.{rules, ◌∙◌, ◌≡◌, ◌+◌, ap, sym, subst, ℕ, arith, Bool, refl}
+use Rattle.std.proofs.Common.{rules, ◌∙◌, subst, ℕ, arith, Bool, refl}
 use Rattle.std.specs.Prelude.{if◌then◌else◌}
-use Rattle.glacier_server.specs.Machine.{State}
 use Rattle.glacier_server.specs.Serving.{Serves}
 use Rattle.glacier_server.proofs.ServingLemmas.{serves_none, serves_then, breaks_then}
 use Rattle.glacier_server.proofs.serving.serve.Goals as goal

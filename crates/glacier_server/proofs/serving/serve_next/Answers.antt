@@ -1,6 +1,4 @@
-use Rattle.std.proofs.Common.{◌≡◌, ◌∙◌, ◌+◌, ap, sym, subst, ℕ, arith, Ok, Bool}
-use Rattle.std.specs.Prelude.{if◌then◌else◌}
-use Rattle.glacier_server.specs.Serving.{Serves}
+use Rattle.std.proofs.Common.{◌∙◌, ap, sym, arith, Ok, Bool}
 use Rattle.glacier_server.proofs.ServingLemmas.{serves_none, breaks_accept}
 use Rattle.glacier_server.proofs.serving.serve_next.Goals as goal
 
