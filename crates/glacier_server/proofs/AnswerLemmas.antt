@@ -1,19 +1,17 @@
 -- What was taken, read and sent for one message makes a turn.
-use Rattle.std.proofs.Common.{◌≡◌, ℕ, ◌+◌, ◌-◌, ◌<◌, ◌≤◌, ◌⊎◌, Bool, true, false, List, [], ◌∷◌, ◌++◌, length, take, drop, Some, None, inl, inr, refl, sym, ap, subst, ◌∙◌, arith, length-append, append-nil, take-append-drop, length-drop}
-use Rattle.std.specs.Prelude.{Option, min, codes, nat_le, ◌^◌, if◌then◌else◌, ◌==◌}
+use Rattle.std.proofs.Common.{◌≡◌, ℕ, ◌+◌, ◌-◌, ◌<◌, ◌⊎◌, Bool, true, false, List, [], ◌∷◌, ◌++◌, length, take, drop, Some, None, inl, inr, refl, sym, ap, subst, ◌∙◌, arith, length-append, append-nil, take-append-drop, length-drop}
+use Rattle.std.specs.Prelude.{Option, min, if◌then◌else◌, ◌==◌}
 use Rattle.std.specs.Option.{is_some}
 use Rattle.std.proofs.lemmas.List.{length-take-le}
-use Rattle.std.proofs.lemmas.Bool.{cases_lt, leb-true}
+use Rattle.std.proofs.lemmas.Bool.{cases_lt}
 use Rattle.std.proofs.Math.Seq.{drop-append-add}
 use Rattle.httparse.specs.declared.spans.HeaderSpan.{HeaderSpan}
-use Rattle.httparse.specs.Grammar.{RequestHead, print_request, IsRequestHead}
+use Rattle.httparse.specs.Grammar.{RequestHead, print_request}
 use Rattle.glacier_http.specs.declared.bad_head.BadHead.{BadHead}
 use Rattle.glacier_http.specs.declared.head_spans.HeadSpans.{HeadSpans}
 use Rattle.glacier_http.specs.declared.head_spans.HeadStep.TheVariants as step
 use Rattle.glacier_http.specs.Head.{Reads}
-use Rattle.glacier_http.specs.Fields.{values_of, length_of_values, number_of, at_most}
-use Rattle.glacier_http.specs.Judged.{pairs, closes, content_length}
-use Rattle.glacier_http.specs.Spans.{IsGood}
+use Rattle.glacier_http.specs.Judged.{closes, content_length}
 use Rattle.glacier_http.specs.Step.{IsStep}
 use Rattle.glacier_http.specs.Opening.{BeginsHead}
 use Rattle.glacier_http.specs.Messages.{Message, good as Good, bad as Bad, Begins, InputEnd, closed, cut, refused, bound, most_messages, last_end, end_of_rest}
@@ -25,8 +23,7 @@ use Rattle.glacier_server.specs.declared.end.End.TheVariants.{Closed, Bound}
 use Rattle.glacier_server.specs.Machine.{State, reply, after}
 use Rattle.glacier_server.specs.Out.{told}
 use Rattle.glacier_server.specs.Turn.{Answers, Waits, Breaks, IsTurn, end_for_some}
-
--- ---- a message that was answered
+use Rattle.glacier_server.proofs.ExtentLemmas.{head_some, ended_cut, empty, Extends}
 
 -- the ends that a message makes
 IsLast : InputEnd → Type 0
@@ -63,8 +60,7 @@ same_close : (o : Option InputEnd) → is_some (end_for_some o) ≡ is_some o
 same_close None = refl
 same_close (Some e) = refl
 
--- ---- a bad head
-
+-- a bad head
 bad_closes : (n : ℕ) (cause : BadHead) → is_some (last_end n (Bad cause)) ≡ true
 bad_closes n cause = go (n + 1 == most_messages)
   where
@@ -103,60 +99,7 @@ module _ (config : Config) (n : ℕ) (input left : List ℕ) (state : State) (re
     after_it = refl;
   }
 
--- ---- a good head
-
-head_some : (h : RequestHead) → IsRequestHead h → 0 < length (print_request h)
-unfolding print_request
-head_some h is = grind (arith, length-append, is.method.0)
-
-ended_cut : (l : List ℕ) (n : ℕ) → 0 < length l → n ≡ length l → cut n ≡ end_of_rest l
-ended_cut [] n some is = absurd (omega (arith, some))
-ended_cut (b ∷ l) n some is = ap cut is
-
-empty : (l : List ℕ) → length l ≡ 0 → l ≡ []
-empty [] is = refl
-empty (b ∷ l) is = absurd (omega (arith, is))
-
--- the buffer begins with a good head as the spans show
-pub good_of : (bytes : List ℕ) (headers : List HeaderSpan) (spans : HeadSpans) → IsStep bytes headers (step.Head spans) → IsGood bytes headers spans
-good_of bytes headers spans (h, behind, begins, shows) = (h, behind, (begins.head, begins.opening.parts), begins.good, shows)
-
--- so many bytes of the message are there, and so many of its body are still to come
-pub record Extends (bytes : List ℕ) (spans : HeadSpans) (used left : ℕ) : Type 0 where
-  pub used_is : used ≡ spans.head_length + min spans.content_length (length bytes - spans.head_length)
-  pub left_is : left ≡ spans.content_length - min spans.content_length (length bytes - spans.head_length)
-
-pub extends_by : (bytes : List ℕ) (spans : HeadSpans) (used left count : ℕ) → count ≡ length bytes
-    → used ≡ spans.head_length + min spans.content_length (count - spans.head_length)
-    → left ≡ spans.content_length - min spans.content_length (count - spans.head_length) → Extends bytes spans used left
-extends_by bytes spans used left count is used_is left_is = record {
-  used_is = used_is ∙ ap (λ (k : ℕ). spans.head_length + min spans.content_length (k - spans.head_length)) is;
-  left_is = left_is ∙ ap (λ (k : ℕ). spans.content_length - min spans.content_length (k - spans.head_length)) is;
-}
-
--- the head is among them
-pub head_fits : (bytes : List ℕ) (headers : List HeaderSpan) (spans : HeadSpans) → IsStep bytes headers (step.Head spans) → spans.head_length ≤ length bytes
-head_fits bytes headers spans (h, behind, begins, shows) =
-    omega (arith, shows.head_length, ap length begins.opening.parts, length-append (print_request h) behind)
-
--- the length of a body that a head gives is small
-small : (limit : ℕ) (values : List (List ℕ)) (n : ℕ) → limit ≡ 2 ^ 33 → length_of_values values ≡ Some n → n ≤ limit
-small limit [] n is found = let zero_is : Some 0 ≡ Some n = found in let none : 0 ≡ n = cc in omega (arith, none)
-small limit (v ∷ []) n is found = go (number_of 10 v) (ap (λ (k : ℕ). at_most k (number_of 10 v)) is ∙ found)
-  where
-    chosen : (k : ℕ) (b : Bool) → nat_le k limit ≡ b → (if b then Some k else None) ≡ Some n → n ≤ limit
-    chosen k true le at = let same : k ≡ n = cc in subst (λ (j : ℕ). j ≤ limit) same (leb-true k limit le)
-    chosen k false le at = absurd (cc)
-
-    go : (o : Option ℕ) → at_most limit o ≡ Some n → n ≤ limit
-    go None at = absurd (cc)
-    go (Some k) at = chosen k (nat_le k limit) refl at
-small limit (v ∷ w ∷ values) n is found = absurd (cc)
-
-pub content_small : (bytes : List ℕ) (headers : List HeaderSpan) (spans : HeadSpans) → IsStep bytes headers (step.Head spans) → spans.content_length ≤ 2 ^ 33
-content_small bytes headers spans (h, behind, begins, shows) =
-    small (2 ^ 33) (values_of (codes "content-length") (pairs h)) spans.content_length refl shows.content_length
-
+-- a good head
 module _ (config : Config) (n : ℕ) (bytes : List ℕ) (headers : List HeaderSpan) (spans : HeadSpans) (used left : ℕ) (reading : ℕ) (state : State)
     (is : IsStep bytes headers (step.Head spans)) (extends : Extends bytes spans used left) where
   pub h : RequestHead

@@ -1,5 +1,7 @@
 mod AllSentLemmas
 mod AnswerLemmas
+mod EventLemmas
+mod ExtentLemmas
 mod ListLemmas
 mod MoveLemmas
 mod OutLemmas

@@ -1,6 +1,9 @@
 // Laws of the definitions, which no code calls.
 ghost use Rattle.std.specs.Prelude.{◌≡◌, ◌≢◌, ◌++◌, ℕ, List};
-ghost use Rattle.glacier_server.specs.Machine.{State};
+ghost use Rattle.glacier_http.specs.Messages.{Message};
+ghost use Rattle.glacier_machine.specs.Runs.{after_all, events, run as run_of_machine};
+ghost use Rattle.glacier_server.specs.Machine.{State, terms_of};
+ghost use Rattle.glacier_server.specs.Out.{run};
 ghost use Rattle.glacier_server.specs.Served.{Served, IsOut};
 ghost use Rattle.glacier_server.specs.declared.config.Config.{Config as Settings};
 ghost use Rattle.glacier_server.specs.declared.end.End.{End as HowEnded};
@@ -17,4 +20,11 @@ pub fn all_was_sent()
 pub fn output_is_one()
     ensures { (config : Settings) (taken moments text other : List ℕ) (state : State)
         → IsOut config taken moments state text → IsOut config taken moments state other → text ≡ other }
+{}
+
+/// The state after messages is that after the events of the machine's run.
+#[tactic(auto, using(crate::proofs::EventLemmas::run_events))]
+pub fn state_is_by_events()
+    ensures { (config : Settings) (state : State) (messages : List Message) (readings : List ℕ)
+        → run config state messages readings ≡ after_all state (events (run_of_machine (terms_of config) state messages readings)) }
 {}

@@ -7,7 +7,8 @@ use Rattle.glacier_server.specs.Machine.{State, after}
 use Rattle.glacier_server.specs.Moves.{Moves, current}
 use Rattle.glacier_server.specs.Turn.{IsTurn, Breaks}
 use Rattle.glacier_server.proofs.MoveLemmas.{sends_more, takes_more, says}
-use Rattle.glacier_server.proofs.AnswerLemmas.{extends_by, head_fits, good_of, h, behind, reads, waits, cut_is, body, body_is, body_length, said, said_is, answered, broken}
+use Rattle.glacier_server.proofs.ExtentLemmas.{extends_by, head_fits, good_of}
+use Rattle.glacier_server.proofs.AnswerLemmas.{h, behind, reads, waits, cut_is, body, body_is, body_length, said, said_is, answered, broken}
 use Rattle.glacier_server.proofs.answer.answer.Goals as goal
 
 pub extent_of-extent-requires : goal.extent_of-extent-requires

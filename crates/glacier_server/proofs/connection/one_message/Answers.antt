@@ -8,7 +8,7 @@ use Rattle.glacier_server.specs.Machine.{State}
 use Rattle.glacier_server.specs.Moves.{current}
 use Rattle.glacier_server.specs.Turn.{Waits, IsTurn, Breaks}
 use Rattle.glacier_server.proofs.MoveLemmas.{then, takes_then, risen_after}
-use Rattle.glacier_server.proofs.AnswerLemmas.{content_small}
+use Rattle.glacier_server.proofs.ExtentLemmas.{content_small}
 use Rattle.glacier_server.proofs.TurnLemmas.{need, other_rest, at_the_end}
 use Rattle.glacier_server.proofs.connection.one_message.Goals as goal
 
