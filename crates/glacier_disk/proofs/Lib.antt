@@ -1,5 +1,4 @@
 pub mod LineLemmas
-pub mod Images
 pub mod Put
 pub mod Pushed
 pub mod Steps

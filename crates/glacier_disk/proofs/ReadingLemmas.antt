@@ -1,6 +1,6 @@
 -- The last of some readings.
-use Rattle.std.proofs.Common.{◌≡◌, ℕ, ◌+◌, ◌-◌, ◌<◌, ◌≤◌, List, [], ◌∷◌, ◌++◌, length, take, get_or, ap, ◌∙◌, arith}
-use Rattle.std.proofs.lemmas.List.{places, length-take, take_all}
+use Rattle.std.proofs.Common.{◌≡◌, ℕ, ◌+◌, ◌-◌, ◌<◌, ◌≤◌, List, [], ◌∷◌, ◌++◌, length, take, get_or, ap, arith}
+use Rattle.std.proofs.lemmas.List.{places, take_all}
 use Rattle.glacier_disk.specs.Readings.{last_or_zero}
 
 pub last-push : (xs : List ℕ) (x : ℕ) → last_or_zero (xs ++ x ∷ []) ≡ x

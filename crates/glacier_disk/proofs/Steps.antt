@@ -1,9 +1,9 @@
 -- What one call more, or a failed one, does to what the record tells.
-use Rattle.std.proofs.Common.{◌≡◌, inl, inr, ℕ, ◌+◌, List, [], ◌∷◌, ◌++◌, length, min, sym, ◌∙◌, ap, subst}
+use Rattle.std.proofs.Common.{◌≡◌, inl, inr, ℕ, ◌+◌, List, [], ◌∷◌, ◌++◌, length, sym, ◌∙◌, ap, subst}
 use Rattle.glacier_disk.specs.declared.area.Area.{Area}
 use Rattle.glacier_disk.specs.declared.record.Call.{Call}
 use Rattle.glacier_disk.specs.declared.record.Call.TheVariants.{Sync, Quiet}
-use Rattle.glacier_disk.specs.Image.{Image, Becomes, TornWrite, Only, Follows, NoMore}
+use Rattle.glacier_disk.specs.Image.{Image, Becomes, Only, NoMore}
 use Rattle.glacier_disk.specs.Record.{after_call, after_calls, left_by_call, left_after, LeftSince, Quietly, with_area}
 use Rattle.glacier_disk.specs.RecordLaws.{others_stay, becomes}
 use Rattle.glacier_disk.specs.Time.{Elapses}
@@ -38,12 +38,6 @@ module _ (first : Image) (old new : List Call) where
 
   pub sync_only : (was : Image) → new ≡ old ++ Sync ∷ [] → was ≡ after_calls old first → Only was (left_after first new)
   sync_only was is replays = λ i left. pushed_left Sync is i left ∙ sym replays
-
-  pub sync_left : new ≡ old ++ Sync ∷ [] → left_after first old (after_calls old first) → NoMore (left_after first old) (left_after first new)
-  sync_left is reads = λ i left. subst (λ (d : Image). left_after first old d) (sym (pushed_left Sync is i left)) reads
-
-  pub write_follows : (area : Area) (place : ℕ) (n : ℕ) (was : Image) (call : Call) → ((i : Image) → left_by_call call (after_calls old first) (left_after first old) i → (d : Image) × left_after first old d × TornWrite area (min place (length (was area))) (place + n) d i) → new ≡ old ++ call ∷ [] → Follows (TornWrite area (min place (length (was area))) (place + n)) (left_after first old) (left_after first new)
-  write_follows area place n was call step is = λ i left. step i (pushed_left call is i left)
 
 pub set_becomes : (area : Area) (bytes : List ℕ) (was now : Image) → now ≡ with_area area bytes was → Becomes area bytes was now
 set_becomes area bytes was now is = record {

@@ -1,5 +1,5 @@
 -- What the last sync made stable, and what was written since.
-use Rattle.std.proofs.Common.{◌≡◌, ◌⊎◌, inl, inr, ⊎_elim, rules, ℕ, suc, ◌+◌, ◌-◌, ◌<◌, true, false, List, [], ◌∷◌, ◌++◌, length, take, drop, get_or, refl, sym, ◌∙◌, ap, subst, arith}
+use Rattle.std.proofs.Common.{◌≡◌, ◌⊎◌, inl, inr, ⊎_elim, rules, ℕ, ◌+◌, ◌-◌, ◌<◌, false, List, [], ◌∷◌, ◌++◌, length, take, drop, get_or, refl, sym, ◌∙◌, ap, subst, arith}
 use Rattle.std.proofs.lemmas.List.{take_more, take-append-drop}
 use Rattle.glacier_disk.specs.declared.area.Area.{Area}
 use Rattle.glacier_disk.specs.declared.record.Call.{Call}
@@ -127,18 +127,3 @@ has_byte_more byte stable old new calls k d lt quiet so_far tears =
     subst (λ (l : List Call). HasByte byte stable (after_calls l stable) (written_by l stable nowhere) new) (sym (take_more calls k d lt))
     (subst (λ (i : Image). HasByte byte stable i (written_by (front ++ call ∷ []) stable nowhere) new) (sym (after_calls-push front call stable))
     (subst (λ (w : Area → ℕ → Type 0). HasByte byte stable (after_call call (after_calls front stable)) w new) (sym (written_by-append front (call ∷ []) stable nowhere)) next))
-
-sync_is : (call : Call) → is_sync call ≡ true → call ≡ Sync
-sync_is (Write area place bytes) is = absurd (search (rules, is))
-sync_is (Cut area n) is = absurd (search (rules, is))
-sync_is Sync is = refl
-sync_is Quiet is = absurd (search (rules, is))
-sync_is Accept is = absurd (search (rules, is))
-sync_is (Send bytes) is = absurd (search (rules, is))
-
--- the calls up to a sync
-pub ends_here : (calls : List Call) (k : ℕ) (d : Call) → k < length calls → is_sync (get_or calls k d) ≡ true → EndsInSync (take (k + 1) calls)
-ends_here calls k d lt is = inr (take k calls, take_more calls k d lt ∙ ap (λ (c : Call). take k calls ++ c ∷ []) (sync_is (get_or calls k d) is))
-
-pub ends_first : (calls : List Call) → EndsInSync (take 0 calls)
-ends_first calls = inl refl

@@ -1,15 +1,14 @@
 -- One call done again, with one byte wherever it wrote.
-use Rattle.std.proofs.Common.{◌≡◌, ◌≢◌, ◌⊎◌, inl, inr, ⊎_elim, rules, ℕ, ◌+◌, ◌-◌, ◌<◌, ◌≤◌, false, max, min, List, length, take, replicate, get_or, refl, sym, ◌∙◌, ap, subst, arith}
+use Rattle.std.proofs.Common.{◌≡◌, ◌≢◌, ◌⊎◌, inl, inr, rules, ℕ, ◌+◌, ◌-◌, ◌<◌, ◌≤◌, max, min, List, length, take, replicate, get_or, refl, sym, ◌∙◌, ap, subst, arith}
 use Rattle.std.proofs.lemmas.Bool.{cases_lt}
 use Rattle.std.proofs.lemmas.List.{length-take, length-replicate, places}
 use Rattle.glacier_disk.specs.declared.area.Area.{Area}
 use Rattle.glacier_disk.specs.declared.area.Area.TheVariants.{Lead, Left, Right, Blobs}
-use Rattle.glacier_disk.specs.declared.record.Call.{Call}
-use Rattle.glacier_disk.specs.declared.record.Call.TheVariants.{Write, Cut, Sync, Quiet, Accept, Send}
+use Rattle.glacier_disk.specs.declared.record.Call.TheVariants.{Write, Cut}
 use Rattle.glacier_disk.specs.Image.{Image, TornWrite, TornCut, put}
-use Rattle.glacier_disk.specs.Record.{with_area, after_call, left_by_call}
+use Rattle.glacier_disk.specs.Record.{with_area}
 use Rattle.glacier_disk.specs.RecordLaws.{becomes, others_stay, put_torn, cut_torn, length-put}
-use Rattle.glacier_disk.specs.Stopped.{is_sync, same_lengths, WrittenBy, TearsBy}
+use Rattle.glacier_disk.specs.Stopped.{same_lengths, WrittenBy, TearsBy}
 
 lengths_with : (area : Area) (bytes : List ℕ) (now new : Image) → length (new area) ≡ length bytes → ((other : Area) → other ≢ area → length (new other) ≡ length (now other)) → same_lengths new (with_area area bytes now)
 lengths_with Lead bytes now new own others Lead = own
@@ -149,19 +148,3 @@ cut_tears area n byte old new is =
   where
     get_or-short : (m : ℕ) (xs : List ℕ) (k : ℕ) → k < m → get_or (take m xs) k 0 ≡ get_or xs k 0
     get_or-short m xs k lt = grind (arith, places)
-
--- a call that writes nothing
-pub quiet_tears : (call : Call) (byte : ℕ) (old : Image) → ((now : Image) → left_by_call call now (λ d. d ≡ old) old) → ((now : Image) → after_call call now ≡ now) → ((now : Image) (area : Area) (k : ℕ) → ¬ WrittenBy call now area k) → TearsBy call byte old old
-quiet_tears call byte old left same none = record {
-  left = λ quiet now long. left now;
-  long = λ quiet now long. subst (λ (i : Image). same_lengths old i) (sym (same now)) long;
-  places = λ quiet now long area k lt. inr (none now area k, lt, refl);
-}
-
--- a sync, which is none of the calls that are done again so
-pub sync_tears : (byte : ℕ) (old : Image) → TearsBy Sync byte old old
-sync_tears byte old = record {
-  left = λ quiet. absurd (search (rules, quiet));
-  long = λ quiet. absurd (search (rules, quiet));
-  places = λ quiet. absurd (search (rules, quiet));
-}

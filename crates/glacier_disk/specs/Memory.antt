@@ -1,5 +1,5 @@
 -- What a station in memory tells.
-use Rattle.std.specs.Prelude.{◌≡◌, ℕ, Bool, true, false, is_some, List, [], length, drop}
+use Rattle.std.specs.Prelude.{◌≡◌, ℕ, Bool, false, is_some, List, [], drop}
 use Rattle.glacier_disk.specs.declared.memory.MemStation.{MemStation}
 use Rattle.glacier_disk.specs.declared.memory.MemPlan.{MemPlan}
 use Rattle.glacier_disk.specs.declared.record.Call.{Call}

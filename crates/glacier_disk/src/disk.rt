@@ -47,7 +47,8 @@ pub trait Disk {
         requires { is_open self.old ≡ false }
         ensures opened { OnOk result (is_open self.new ≡ true) }
         ensures closed { OnErr result (is_open self.new ≡ false) }
-        ensures named { IsTrue tells → Named folder.now (folders self.old) (folders self.new) result }
+        ensures named { IsTrue tells →
+            Named folder.now (folders self.old) (folders self.new) result }
         ensures rests { IsTrue tells → Rests moment left leaves reads self.old self.new }
         ensures alone { by_disk self.old self.new }
         ensures planned { IsTrue tells → Contains (plan self.old) (moment self.old) → IsErr result }

@@ -1,5 +1,6 @@
-// A station over the files of a folder, a listener and one stream. It tells what is open and its counts, and nothing else.
-ghost use Rattle.std.specs.Prelude.{◌≡◌, false, is_some};
+// A station over the files of a folder, a listener and one stream. It tells what is open and its
+// counts, and nothing else.
+ghost use Rattle.std.specs.Prelude.{◌≡◌, false};
 ghost use Rattle.glacier_base.specs.Outside.{HasCause};
 
 use crate::folder::Folder;

@@ -1,5 +1,5 @@
 // The sockets and the clock of a station of the system.
-ghost use Rattle.std.specs.Prelude.{◌≡◌, ◌≤◌, [], length, is_some};
+ghost use Rattle.std.specs.Prelude.{◌≡◌, ◌≤◌, [], is_some};
 ghost use Rattle.std.proofs.Common.{inl, ⊎_elim, rules};
 
 use crate::host::counted;
@@ -11,7 +11,8 @@ use std::net::Net;
 use std::rt::Files;
 use std::time::{Clock, SystemTime, UNIX_EPOCH};
 
-// A time before 1970, or of a clock that can't be read, is 0, and one past the greatest moment is the greatest.
+// A time before 1970, or of a clock that can't be read, is 0, and one past the greatest moment is
+// the greatest.
 fn seconds<R: Clock>(rt: &R) -> u64
     ensures { result ≤ LAST_MOMENT }
 {

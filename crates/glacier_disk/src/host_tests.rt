@@ -8,7 +8,8 @@ use std::net::{OpenListener, Shutdown, TcpStream};
 use std::test::Fail;
 use std::{env, fs, process};
 
-// Reads past the end, writes past it, cuts and makes stable. What was read, and the sizes before and after the cut.
+// Reads past the end, writes past it, cuts and makes stable. What was read, and the sizes before
+// and after the cut.
 fn write_and_cut<D: Disk>(
     disk: &mut D,
     folder: &str,

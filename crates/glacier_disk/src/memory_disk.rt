@@ -1,6 +1,6 @@
 // The disk of a station in memory.
 ghost use Rattle.std.specs.Prelude.{◌≡◌, ◌≤◌, true, length};
-ghost use Rattle.std.proofs.Common.{arith, refl, ◌∙◌, ap};
+ghost use Rattle.std.proofs.Common.{arith, refl, ◌∙◌};
 
 use crate::areas::bytes_of;
 use crate::bytes::fill;

@@ -5,7 +5,7 @@ ghost use Rattle.glacier_base.specs.Outside.{HasCause};
 ghost use Rattle.glacier_disk.specs.Calls.{Named, RestsWith, SameDisk, SendElapses};
 ghost use Rattle.glacier_disk.specs.Image.{Image};
 ghost use Rattle.glacier_disk.specs.Time.{Rests};
-ghost use Rattle.glacier_disk.specs.Network.{Connection, accepted, AllSent, sent_on, OnLast, Takes, TakesNone, Sends, SendsPart};
+ghost use Rattle.glacier_disk.specs.Network.{Connection, accepted, AllSent, OnLast, Takes, TakesNone, Sends, SendsPart};
 
 use crate::Disk;
 use glacier_base::{Failed, Moment};
@@ -39,7 +39,8 @@ pub trait Station: Disk {
     /// The readings of the clock so far, in order.
     ghost readings: { Self → List ℕ };
 
-    /// A crash at a moment since then might have left this image when just these bytes had been sent.
+    /// A crash at a moment since then might have left this image when just these bytes had been
+    /// sent.
     ghost left_with: { Self → ℕ → Image → List (List ℕ) → Type 0 };
 
     /// Begins to listen at an address, as `127.0.0.1:8080`.
@@ -94,7 +95,8 @@ pub trait Station: Disk {
         ensures rests { IsTrue Self.tells → RestsWith Self.moment Self.left Self.leaves Self.reads
             left_with self.old self.new (AllSent (connections self.new)) };
 
-    /// Takes bytes of the open connection's input. For a place that is not empty it answers 0 only at the end.
+    /// Takes bytes of the open connection's input. For a place that is not empty it answers 0 only
+    /// at the end.
     fn receive(&mut self, into: &mut [u8]) -> Result<usize, Failed>
         requires { is_connected self.old ≡ true }
         ensures within { IfOk result (λ n. n ≤ length into.old) }
@@ -196,7 +198,8 @@ pub trait Station: Disk {
         (addresses new ≡ addresses old) × (to_come new ≡ to_come old)
         × (connections new ≡ connections old) × (readings new ≡ readings old) };
 
-    /// A crash in disk calls leaves an image of since their start, beside the bytes sent before them.
+    /// A crash in disk calls leaves an image of since their start, beside the bytes sent before
+    /// them.
     ghost by_disk_left: { IsTrue Self.tells → (old new : Self) (t : ℕ) (i : Image)
         (sent : List (List ℕ)) → Self.by_disk old new → t ≤ Self.moment old →
         left_with new t i sent → left_with old t i sent ⊎

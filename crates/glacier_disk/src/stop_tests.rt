@@ -1,4 +1,5 @@
-// What a stop may leave after each call of a short run, worked out by hand from the rules of the disk.
+// What a stop may leave after each call of a short run, worked out by hand from the rules of the
+// disk.
 ghost use Rattle.std.specs.Prelude.{◌≡◌, ◌≤◌, false, length};
 ghost use Rattle.glacier_disk.specs.Memory.{calls_of};
 
@@ -44,7 +45,8 @@ fn leaves(
     )
 }
 
-// A stop after so many calls: Left and Blobs as last synced, as written, and with `#` for what isn't stable.
+// A stop after so many calls: Left and Blobs as last synced, as written, and with `#` for what
+// isn't stable.
 #[derive(Drop)]
 struct Stop {
     calls: u64,

@@ -1,5 +1,5 @@
 // The fields of a head by their names, and what some of them say.
-ghost use Rattle.std.specs.Prelude.{◌≡◌, ◌≤◌, ◌^◌, length, All, map, codes, not};
+ghost use Rattle.std.specs.Prelude.{◌≡◌, ◌≤◌, length, All, map, not};
 ghost use Rattle.httparse.specs.Spans.{IsHeaderWithin, header_bytes};
 ghost use Rattle.glacier_http.specs.Fields.{is_named as name_test, values_of, length_in, closes_in, expects_in};
 ghost use Rattle.glacier_http.specs.Judged.{is_empty};

@@ -12,8 +12,10 @@ use glacier_base::Digest;
 
 const LEAF: u64 = MIB as u64;
 
-/// Whether the bytes from `first` to before `end` are a node of the tree over `size` bytes: a stretch of 2^k leaves
-/// that begins at a multiple of its length, or what is left of one at the end. False for a size of 0.
+/// Whether the bytes from `first` to before `end` are a node of the tree over `size` bytes: a
+/// stretch of 2^k leaves
+/// that begins at a multiple of its length, or what is left of one at the end. False for a size of
+/// 0.
 pub fn is_node(size: u64, first: u64, end: u64) -> bool
     ensures node { IsTrue result ↔ IsNode size first end }
     ensures range { IsTrue result → (first < end) × (end ≤ size) }
@@ -36,7 +38,8 @@ fn is_filled(size: u64, first: u64, end: u64, width: u64) -> bool
     end == size || (end - first) / LEAF == width
 }
 
-/// The tree hash of the bytes from `first` to before `end`, of `size` bytes with these leaves: None where they are
+/// The tree hash of the bytes from `first` to before `end`, of `size` bytes with these leaves: None
+/// where they are
 /// no node.
 pub fn range_hash(leaves: &[Digest], size: u64, first: u64, end: u64) -> Option<Digest>
     requires some { 1 ≤ size }
