@@ -1,5 +1,5 @@
 -- What the last sync made stable, and what was written since.
-use Rattle.std.proofs.Common.{◌≡◌, ◌⊎◌, inl, inr, ⊎_elim, rules, ℕ, ◌+◌, ◌-◌, ◌<◌, false, List, [], ◌∷◌, ◌++◌, length, take, drop, get_or, refl, sym, ◌∙◌, ap, subst, arith}
+use Rattle.std.proofs.Common.{◌≡◌, inl, inr, ⊎_elim, rules, ℕ, ◌+◌, ◌<◌, false, List, [], ◌∷◌, ◌++◌, length, take, drop, get_or, refl, sym, ◌∙◌, ap, subst}
 use Rattle.std.proofs.lemmas.List.{take_more, take-append-drop}
 use Rattle.glacier_disk.specs.declared.area.Area.{Area}
 use Rattle.glacier_disk.specs.declared.record.Call.{Call}
