@@ -1,8 +1,10 @@
 mod AllSentLemmas
 mod AnswerLemmas
+mod ConnectionLemmas
 mod EventLemmas
 mod ExtentLemmas
 mod ListLemmas
+mod MessageLemmas
 mod MoveLemmas
 mod OutLemmas
 mod ReplyLemmas

@@ -1,12 +1,14 @@
 -- What was sent on a connection for the bytes that were taken on it, and the state after it.
 use Rattle.std.specs.Prelude.{◌≡◌, ℕ, ◌≤◌, ◌⊎◌, List, [], ◌++◌, length, drop, Option, Some, None}
 use Rattle.httparse.specs.Grammar.{RequestHead}
+use Rattle.glacier_disk.specs.Network.{Connection}
 use Rattle.glacier_http.specs.Opening.{BeginsHead}
 use Rattle.glacier_http.specs.Messages.{Message, Hears, Heard, BeginsNone, InputEnd, closed, cut, refused, bound, end_of_rest}
 use Rattle.glacier_server.specs.declared.config.Config.{Config}
 use Rattle.glacier_server.specs.declared.end.End.{End}
 use Rattle.glacier_server.specs.declared.end.End.TheVariants.{Closed, Cut, Refused, Bound, ReadFault, SendFault}
 use Rattle.glacier_server.specs.Machine.{State}
+use Rattle.glacier_server.specs.Moves.{Moves, current}
 use Rattle.glacier_server.specs.Out.{run, out, Tells}
 
 -- these messages were run at these readings, and the rest has this text told: the bytes sent are all of that, but for what is unsent
@@ -81,3 +83,22 @@ Served config taken sent moments coming state new Bound = EndsLast config taken 
 Served config taken sent moments coming state new ReadFault =
     (messages : List Message) × (rest : List ℕ) × Stops config taken sent moments state new messages rest
 Served config taken sent moments coming state new SendFault = Part config taken sent moments state new
+
+-- the last connection was served to this end
+pub record ServedLast {S : Type 0} (connections : S → List Connection) (readings : S → List ℕ) (config : Config)
+    (old new : S) (state after : State) (end : End) : Type 0 where
+  pub taken : List ℕ
+  pub sent : List ℕ
+  pub moments : List ℕ
+  pub moves : Moves connections readings old new taken sent moments
+  pub served : Served config taken sent moments (current (connections new)).coming state after end
+
+-- a first part of its output was sent on the last connection
+pub record PartLast {S : Type 0} (connections : S → List Connection) (readings : S → List ℕ) (config : Config)
+    (old new : S) (state : State) : Type 0 where
+  pub taken : List ℕ
+  pub sent : List ℕ
+  pub moments : List ℕ
+  pub after : State
+  pub moves : Moves connections readings old new taken sent moments
+  pub part : Part config taken sent moments state after

@@ -1,6 +1,6 @@
 -- What a server does for the connections that come, one after another.
 use Rattle.std.specs.Prelude.{◌≡◌, ℕ, ◌+◌, ◌<◌, List, [], ◌∷◌, ◌++◌, length}
-use Rattle.glacier_disk.specs.Network.{Connection}
+use Rattle.glacier_disk.specs.Network.{Connection, accepted}
 use Rattle.glacier_server.specs.declared.config.Config.{Config}
 use Rattle.glacier_server.specs.declared.end.End.{End}
 use Rattle.glacier_server.specs.declared.end.End.TheVariants.{ReadFault, SendFault}
@@ -50,3 +50,8 @@ pub record Breaks {S : Type 0} (connections : S → List Connection) (readings :
   pub behind : connections new ≡ connections old ++ came
   pub read : readings new ≡ readings old ++ moments
   pub till : ServedTill config fault came moments state
+
+-- a connection was just accepted, and no reading was taken
+abbrev pub JustAccepted : {S : Type 0} → (S → List Connection) → (S → List ℕ) → S → S → Type 0
+JustAccepted connections readings old new =
+    (input : List ℕ) × (connections new ≡ connections old ++ accepted input ∷ []) × (readings new ≡ readings old)
