@@ -1,11 +1,12 @@
 -- What is sent for messages at their readings, and the state after them.
-use Rattle.std.specs.Prelude.{◌≡◌, ℕ, ◌+◌, List, [], ◌∷◌, ◌++◌}
+use Rattle.std.specs.Prelude.{◌≡◌, ℕ, ◌+◌, Bool, List, [], ◌∷◌, ◌++◌}
 use Rattle.std.specs.Option.{is_some}
 use Rattle.httparse.specs.Grammar.{RequestHead}
 use Rattle.glacier_http.specs.Opening.{BeginsHead}
 use Rattle.glacier_http.specs.Messages.{Message, good as Good, bad as Bad, last_end}
 use Rattle.glacier_server.specs.declared.config.Config.{Config}
-use Rattle.glacier_server.specs.Machine.{State, reply, after, interim_of}
+use Rattle.glacier_machine.specs.Runs.{Told}
+use Rattle.glacier_server.specs.Machine.{State, text_of_reply, reply, after, interim_of}
 
 abbrev pub interim : Message → List ℕ
 interim (Good h body) = interim_of h
@@ -33,3 +34,15 @@ abbrev pub Tells : List ℕ → List ℕ → List ℕ → Type 0
 Tells rest [] text = text ≡ []
 Tells rest (r ∷ []) text = (h : RequestHead) × (more : List ℕ) × BeginsHead rest h more × (text ≡ interim_of h)
 Tells rest (r ∷ q ∷ readings) text = ⊥
+
+-- whether the reply to each of these messages says that the connection closes: n stand before them
+abbrev pub closings : ℕ → List Message → List Bool
+closings n [] = []
+closings n (m ∷ messages) = is_some (last_end n m) ∷ closings (n + 1) messages
+
+-- the printed replies of a run of the machine, one behind the other, each at its reading
+abbrev pub texts : List Told → List ℕ → List Bool → List ℕ
+texts [] readings closings = []
+texts (told ∷ more) [] closings = []
+texts (told ∷ more) (r ∷ readings) [] = []
+texts (told ∷ more) (r ∷ readings) (close ∷ closings) = text_of_reply told.reply r close ++ texts more readings closings
