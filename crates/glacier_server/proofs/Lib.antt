@@ -2,6 +2,7 @@ mod AllSentLemmas
 mod AnswerLemmas
 mod ConnectionLemmas
 mod EventLemmas
+mod Examples
 mod ExtentLemmas
 mod ListLemmas
 mod MessageLemmas
