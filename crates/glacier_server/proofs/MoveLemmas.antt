@@ -12,16 +12,10 @@ stays_up a most = omega arith
 on_up : (a b c most : ℕ) → min a most ≤ b → min b most ≤ c → min a most ≤ c
 on_up a b c most first second = omega (arith, first, second)
 
-first_rises : (a b c most : ℕ) → min (a + 1) most ≤ b → min b most ≤ c → min (a + 1) most ≤ c
-first_rises a b c most first second = omega (arith, first, second)
-
 then_rises : (a b c most : ℕ) → min a most ≤ b → min (b + 1) most ≤ c → min (a + 1) most ≤ c
 then_rises a b c most first second = omega (arith, first, second)
 
--- a count that has risen doesn't fall again, and rises from an earlier one too
-pub risen_before : (a b c : ℕ) → HasRisen a b → NotFallen b c → HasRisen a c
-risen_before a b c first second = first_rises a b c (2 ^ 64 - 1) first second
-
+-- a count that rises later rises from an earlier one too
 pub risen_after : (a b c : ℕ) → NotFallen a b → HasRisen b c → HasRisen a c
 risen_after a b c first second = then_rises a b c (2 ^ 64 - 1) first second
 
