@@ -1,8 +1,11 @@
 mod AllSentLemmas
 mod AnswerLemmas
+mod ConnectionLemmas
 mod EventLemmas
+mod Examples
 mod ExtentLemmas
 mod ListLemmas
+mod MessageLemmas
 mod MoveLemmas
 mod OutLemmas
 mod ReplyLemmas

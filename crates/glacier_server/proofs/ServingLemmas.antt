@@ -9,9 +9,9 @@ use Rattle.glacier_server.specs.declared.end.End.TheVariants.{ReadFault, SendFau
 use Rattle.glacier_server.specs.declared.end.ServeFault.{ServeFault}
 use Rattle.glacier_server.specs.declared.end.ServeFault.TheVariants.{Memory, Accept}
 use Rattle.glacier_server.specs.Machine.{State}
-use Rattle.glacier_server.specs.Moves.{Moves, current, others}
-use Rattle.glacier_server.specs.Served.{Served, Part}
-use Rattle.glacier_server.specs.Serving.{ServedOne, ServedAll, Serves, ServedTill, Breaks}
+use Rattle.glacier_server.specs.Moves.{Moves, ReceiveFailed, SendFailed, current, others}
+use Rattle.glacier_server.specs.Served.{Served, Part, ServedLast, PartLast}
+use Rattle.glacier_server.specs.Serving.{ServedOne, ServedAll, Serves, ServedTill, Breaks, JustAccepted}
 use Rattle.glacier_server.proofs.StepLemmas.{current-snoc, others-snoc}
 
 served-append : (config : Config) (cs ds : List Connection) (ms ns : List ℕ) (state mid new : State)
@@ -103,23 +103,22 @@ module _ {S : Type 0} (connections : S → List Connection) (readings : S → Li
     till = (state, (refl, refl));
   }
 
-  -- from an accept to the end of its connection
-  module _ (old start done new : S) (input taken sent moments : List ℕ)
-      (accepts : connections start ≡ connections old ++ accepted input ∷ []) (read : readings start ≡ readings old)
+  -- from an accept to the end of its connection, on which these bytes were taken and sent
+  module _ (old start done new : S) (taken sent moments : List ℕ) (opens : JustAccepted connections readings old start)
       (moves : Moves connections readings start done taken sent moments)
       (before : List Connection) (last : Connection) (opened : connections done ≡ before ++ last ∷ [])
       (same : connections new ≡ connections done) (read_last : readings new ≡ readings done) where
     c : Connection
     c = current (connections done)
 
-    fresh : current (connections start) ≡ accepted input
-    fresh = ap current accepts ∙ current-snoc (connections old) (accepted input)
+    fresh : current (connections start) ≡ accepted opens.0
+    fresh = ap current opens.1 ∙ current-snoc (connections old) (accepted opens.0)
 
     behind : connections new ≡ connections old ++ c ∷ []
     unfolding c
     behind =
         same ∙ last_is (connections done) before last opened
-        ∙ ap (λ (l : List Connection). l ++ current (connections done) ∷ []) (moves.rest ∙ ap others accepts ∙ others-snoc (connections old) (accepted input))
+        ∙ ap (λ (l : List Connection). l ++ current (connections done) ∷ []) (moves.rest ∙ ap others opens.1 ∙ others-snoc (connections old) (accepted opens.0))
 
     took : c.taken ≡ taken
     unfolding c
@@ -130,14 +129,13 @@ module _ {S : Type 0} (connections : S → List Connection) (readings : S → Li
     sent_now = moves.sent_now ∙ ap (λ (d : Connection). d.sent ++ sent) fresh
 
     read_all : readings new ≡ readings old ++ moments
-    read_all = read_last ∙ moves.read ∙ ap (λ (l : List ℕ). l ++ moments) read
+    read_all = read_last ∙ moves.read ∙ ap (λ (l : List ℕ). l ++ moments) opens.2
 
-    pub serves_one : (state after : State) (end : End) → Served config taken sent moments (current (connections done)).coming state after end
-        → (end ≡ ReadFault → HasRisen (current (connections start)).receives_failed (current (connections done)).receives_failed)
-        → (end ≡ SendFault → HasRisen (current (connections start)).sends_failed (current (connections done)).sends_failed)
+    serves_by : (state after : State) (end : End) → Served config taken sent moments (current (connections done)).coming state after end
+        → (end ≡ ReadFault → ReceiveFailed connections start done) → (end ≡ SendFault → SendFailed connections start done)
         → to_come old ≡ 1 + to_come new → Serves connections readings to_come config old new state after 1
     unfolding c
-    serves_one state after end served read_failed send_failed come = record {
+    serves_by state after end served read_failed send_failed come = record {
       came = c ∷ [];
       moments = moments;
       behind = behind;
@@ -153,8 +151,8 @@ module _ {S : Type 0} (connections : S → List Connection) (readings : S → Li
       });
     }
 
-    pub breaks_one : (state after : State) → Part config taken sent moments state after → Breaks connections readings config old new state Memory
-    breaks_one state after part = record {
+    breaks_by : (state after : State) → Part config taken sent moments state after → Breaks connections readings config old new state Memory
+    breaks_by state after part = record {
       came = c ∷ [];
       moments = moments;
       behind = behind;
@@ -173,3 +171,20 @@ module _ {S : Type 0} (connections : S → List Connection) (readings : S → Li
             (subst (λ (l : List ℕ). Part config taken l moments state after) (sym sent_now) part),
       );
     }
+
+  -- the connection was served to its end, or memory was wanting on it, and then it was closed
+  module _ (old start done new : S) (state : State) (opens : JustAccepted connections readings old start)
+      (last : (before : List Connection) × (d : Connection) × (connections done ≡ before ++ d ∷ []))
+      (same : connections new ≡ connections done) (read_last : readings new ≡ readings done) where
+    pub serves_one : (after : State) (end : End) → ServedLast connections readings config start done state after end
+        → (end ≡ ReadFault → ReceiveFailed connections start done) → (end ≡ SendFault → SendFailed connections start done)
+        → to_come old ≡ 1 + to_come new → Serves connections readings to_come config old new state after 1
+    serves_one after end x read_failed send_failed come =
+        serves_by old start done new x.taken x.sent x.moments opens x.moves last.0 last.1 last.2 same read_last
+        state after end x.served read_failed send_failed come
+
+    pub breaks_one : (fault : ServeFault) → fault ≡ Memory → PartLast connections readings config start done state
+        → Breaks connections readings config old new state fault
+    breaks_one fault is x =
+        subst (λ (f : ServeFault). Breaks connections readings config old new state f) (sym is)
+        (breaks_by old start done new x.taken x.sent x.moments opens x.moves last.0 last.1 last.2 same read_last state x.after x.part)

@@ -3,7 +3,7 @@ use Rattle.std.proofs.Common.{◌≡◌, ℕ, ◌+◌, ◌-◌, ◌^◌, ◌≤�
 use Rattle.std.specs.Prelude.{min}
 use Rattle.glacier_base.specs.Outside.{HasRisen, one_more}
 use Rattle.glacier_disk.specs.Network.{Connection, OnLast, Takes, TakesNone, Sends, SendsPart}
-use Rattle.glacier_server.specs.Moves.{Moves, NotFallen, current, others}
+use Rattle.glacier_server.specs.Moves.{Moves, ReceiveFailed, SendFailed, NoneComing, NotFallen, current, others}
 
 pub current-snoc : (before : List Connection) (c : Connection) → current (before ++ c ∷ []) ≡ c
 current-snoc [] c = refl
@@ -97,13 +97,13 @@ module _ {S : Type 0} (connections : S → List Connection) (readings : S → Li
         (same_count _ _ e.steps.receives_failed) (one_count _ _ e.steps.sends_failed)
 
   -- a call that failed on the last connection
-  pub read_failed : OnLast TakesNone (connections old) (connections new) → HasRisen (current (connections old)).receives_failed (current (connections new)).receives_failed
+  pub read_failed : OnLast TakesNone (connections old) (connections new) → ReceiveFailed connections old new
   read_failed on =
       let e = ends TakesNone (connections old) (connections new) on in
       rises _ _ (ap (λ (c : Connection). c.receives_failed) e.is ∙ e.steps.receives_failed ∙ ap (λ (c : Connection). one_more c.receives_failed) (sym e.was))
 
   pub send_failed : (n : ℕ) (bytes : List ℕ) → OnLast (SendsPart n bytes) (connections old) (connections new)
-      → HasRisen (current (connections old)).sends_failed (current (connections new)).sends_failed
+      → SendFailed connections old new
   send_failed n bytes on =
       let e = ends (SendsPart n bytes) (connections old) (connections new) on in
       rises _ _ (ap (λ (c : Connection). c.sends_failed) e.is ∙ e.steps.sends_failed ∙ ap (λ (c : Connection). one_more c.sends_failed) (sym e.was))
@@ -121,7 +121,7 @@ module _ {S : Type 0} (connections : S → List Connection) (readings : S → Li
   }
 
 pub at_end : {S : Type 0} (connections : S → List Connection) (old new : S) → OnLast (λ from to. to.coming ≡ []) (connections old) (connections new)
-    → (current (connections new)).coming ≡ []
+    → NoneComing connections new
 at_end connections old new on =
     let e = ends (λ from to. to.coming ≡ []) (connections old) (connections new) on in
     ap (λ (c : Connection). c.coming) e.is ∙ e.steps

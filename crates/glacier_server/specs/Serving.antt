@@ -1,6 +1,6 @@
 -- What a server does for the connections that come, one after another.
 use Rattle.std.specs.Prelude.{◌≡◌, ℕ, ◌+◌, ◌<◌, List, [], ◌∷◌, ◌++◌, length}
-use Rattle.glacier_disk.specs.Network.{Connection}
+use Rattle.glacier_disk.specs.Network.{Connection, accepted}
 use Rattle.glacier_server.specs.declared.config.Config.{Config}
 use Rattle.glacier_server.specs.declared.end.End.{End}
 use Rattle.glacier_server.specs.declared.end.End.TheVariants.{ReadFault, SendFault}
@@ -10,7 +10,8 @@ use Rattle.glacier_server.specs.Machine.{State}
 use Rattle.glacier_server.specs.Served.{Served, Part}
 
 -- the connection was served to this end, and a fault is its end only where a call on it failed
-pub record ServedOne (config : Config) (c : Connection) (moments : List ℕ) (state new : State) : Type 0 where
+pub record ServedOne (config : Config) (c : Connection) (moments : List ℕ) (state new : State)
+    : Type 0 where
   pub end : End
   pub served : Served config c.taken c.sent moments c.coming state new end
   pub read : end ≡ ReadFault → 0 < c.receives_failed
@@ -24,8 +25,8 @@ ServedAll config (c ∷ cs) moments state new =
     × ServedOne config c first state mid × ServedAll config cs later mid new
 
 -- so many connections came and were served
-pub record Serves {S : Type 0} (connections : S → List Connection) (readings : S → List ℕ) (to_come : S → ℕ)
-    (config : Config) (old new : S) (state after : State) (count : ℕ) : Type 0 where
+pub record Serves {S : Type 0} (connections : S → List Connection) (readings : S → List ℕ)
+    (to_come : S → ℕ) (config : Config) (old new : S) (state after : State) (count : ℕ) : Type 0 where
   pub came : List Connection
   pub moments : List ℕ
   pub behind : connections new ≡ connections old ++ came
@@ -34,9 +35,10 @@ pub record Serves {S : Type 0} (connections : S → List Connection) (readings :
   pub read : readings new ≡ readings old ++ moments
   pub each : ServedAll config came moments state after
 
--- those that came before the fault were served; where memory was wanting, a first part of its output was sent on the last
+-- those before the fault were served; where memory was wanting, a first part was sent on the last
 abbrev pub ServedTill : Config → ServeFault → List Connection → List ℕ → State → Type 0
-ServedTill config Accept came moments state = (after : State) × ServedAll config came moments state after
+ServedTill config Accept came moments state =
+    (after : State) × ServedAll config came moments state after
 ServedTill config Memory came moments state =
     (first : List Connection) × (last : Connection) × (before here : List ℕ) × (mid new : State)
     × (came ≡ first ++ last ∷ []) × (moments ≡ before ++ here)
@@ -50,3 +52,9 @@ pub record Breaks {S : Type 0} (connections : S → List Connection) (readings :
   pub behind : connections new ≡ connections old ++ came
   pub read : readings new ≡ readings old ++ moments
   pub till : ServedTill config fault came moments state
+
+-- a connection was just accepted, and no reading was taken
+abbrev pub JustAccepted : {S : Type 0} → (S → List Connection) → (S → List ℕ) → S → S → Type 0
+JustAccepted connections readings old new =
+    (input : List ℕ) × (connections new ≡ connections old ++ accepted input ∷ [])
+    × (readings new ≡ readings old)

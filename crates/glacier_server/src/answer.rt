@@ -1,16 +1,14 @@
 // Answering one message.
-ghost use Rattle.std.specs.Prelude.{◌≡◌, ◌≢◌, ◌+◌, ◌++◌, [], ◌∷◌, ◌==◌, ◌<◌, ◌≤◌, ◌^◌, ℕ, List, IsTrue, Option, Some, None, length, take, true, false, IfOk, OnOk, OnErr, if◌then◌else◌};
-ghost use Rattle.httparse.specs.Grammar.{RequestHead};
+ghost use Rattle.std.specs.Prelude.{◌≡◌, ◌≢◌, ◌+◌, [], ◌==◌, ◌<◌, ◌≤◌, ◌^◌, ℕ, IsTrue, Option, Some, None, length, take, true, false, IfOk, OnOk, OnErr};
 ghost use Rattle.glacier_base.specs.Outside.{HasRisen};
-ghost use Rattle.glacier_http.specs.Head.{Reads};
-ghost use Rattle.glacier_http.specs.Judged.{content_length};
-ghost use Rattle.glacier_http.specs.Messages.{good as Good, bad as Bad, Begins, last_end};
+ghost use Rattle.glacier_http.specs.Messages.{bad as Bad, last_end};
 ghost use Rattle.glacier_http.specs.Spans.{IsGood};
 ghost use Rattle.glacier_http.specs.Step.{IsStep};
 ghost use Rattle.glacier_http.specs.declared.head_spans.HeadStep.TheVariants as step;
-ghost use Rattle.glacier_server.specs.Machine.{State, reply as reply_to, after};
-ghost use Rattle.glacier_server.specs.Moves.{Moves, SameBeside, current};
-ghost use Rattle.glacier_server.specs.Turn.{IsTurn, Breaks, end_for_some};
+ghost use Rattle.glacier_server.specs.Finding.{AtFront};
+ghost use Rattle.glacier_server.specs.Machine.{reply as reply_to, after};
+ghost use Rattle.glacier_server.specs.Moves.{Moves, SameBeside, ReceiveFailed, SendFailed};
+ghost use Rattle.glacier_server.specs.Turn.{Turns, BreaksOff, Refuses, RefusesPart, end_for_some, end_of_good};
 
 use crate::body::take_rest;
 use crate::end::End;
@@ -69,7 +67,7 @@ fn bad_end(count: u64) -> End
 /// The end that a good message makes, if any.
 fn good_end(count: u64, close: bool) -> Option<End>
     requires { count < 1000 }
-    ensures end { result ≡ (if count + 1 == 1000 then Some End.Bound else if close then Some End.Closed else None) }
+    ensures end { result ≡ end_of_good count close }
     ensures below { result ≡ None → count + 1 < 1000 }
 {
     if count + 1 == MOST_MESSAGES {
@@ -91,17 +89,23 @@ pub fn refuse<S: Station>(
 ) -> Result<End, Memory>
     requires connected { S.is_connected station.old ≡ true }
     requires below { count < 1000 }
-    ensures turn { IsTrue S.tells → IfOk result (λ end. (sent moments : List ℕ) × Moves S.connections S.readings station.old station.new [] sent moments
-        × ((input left : List ℕ) (state : State) → Begins input (Bad cause) left → IsTurn config.now count input left state state sent moments (current (S.connections station.new)).coming (Some end))) }
-    ensures memory { IsTrue S.tells → OnErr result ((sent moments : List ℕ) × Moves S.connections S.readings station.old station.new [] sent moments
-        × ((input left : List ℕ) (state : State) → Begins input (Bad cause) left → (new : State) × Breaks config.now count input state new sent moments)) }
+    ensures turn { IsTrue S.tells →
+        IfOk result (λ end. Refuses S.connections S.readings config.now count station.old
+        station.new cause end) }
+    ensures memory { IsTrue S.tells →
+        OnErr result (RefusesPart S.connections S.readings config.now count station.old station.new
+        cause) }
     ensures connected { S.is_connected station.new ≡ true }
     ensures read { IfOk result (λ end. end ≢ End.ReadFault) }
-    ensures send { IfOk result (λ end. end ≡ End.SendFault → HasRisen (S.send_faults station.old) (S.send_faults station.new)) }
-    ensures send_here { IsTrue S.tells → IfOk result (λ end. end ≡ End.SendFault → HasRisen (current (S.connections station.old)).sends_failed (current (S.connections station.new)).sends_failed) }
+    ensures send { IfOk result (λ end. end ≡ End.SendFault →
+        HasRisen (S.send_faults station.old) (S.send_faults station.new)) }
+    ensures send_here { IsTrue S.tells →
+        IfOk result (λ end. end ≡ End.SendFault →
+        SendFailed S.connections station.old station.new) }
     ensures receives { S.receive_faults station.new ≡ S.receive_faults station.old }
     ensures sends { S.send_faults station.old ≤ S.send_faults station.new }
-    ensures beside { SameBeside S.is_listening S.addresses S.folders S.to_come S.accept_faults station.old station.new }
+    ensures beside { SameBeside S.is_listening S.addresses S.folders S.to_come S.accept_faults
+        station.old station.new }
 {
     let reading = now(station);
     let reply = match answer_bad(alloc, config, cause, reading) {
@@ -125,10 +129,10 @@ fn reply_of(
     close: bool,
 ) -> Result<Vec<u8>, Memory>
     requires { IsGood desk.now.unread desk.now.head spans.now }
-    ensures reply { (h : RequestHead) (behind body : List ℕ) → Reads desk.now.unread h behind → content_length h ≡ Some (length body)
-        → spans.now.content_length ≡ length body → IfOk result (λ reply. reply.items ≡ reply_to config.now store.old (Good h body) reading close) }
-    ensures store { (h : RequestHead) (behind body : List ℕ) → Reads desk.now.unread h behind → content_length h ≡ Some (length body)
-        → spans.now.content_length ≡ length body → OnOk result (store.new ≡ after config.now store.old (Good h body) reading) }
+    ensures reply { AtFront desk.now.unread spans.now
+        (λ m. IfOk result (λ reply. reply.items ≡ reply_to config.now store.old m reading close)) }
+    ensures store { AtFront desk.now.unread spans.now
+        (λ m. OnOk result (store.new ≡ after config.now store.old m reading)) }
 {
     let head = spans.view(desk.unread.bytes(), &desk.head);
     match answer_message(
@@ -158,21 +162,28 @@ fn send_reply<S: Station>(
 ) -> Result<bool, Memory>
     requires connected { S.is_connected station.old ≡ true }
     requires good { IsGood desk.now.unread desk.now.head spans.now }
-    ensures sent { IsTrue S.tells → (h : RequestHead) (behind body : List ℕ) → Reads desk.now.unread h behind → content_length h ≡ Some (length body)
-        → spans.now.content_length ≡ length body → result ≡ Ok true →
-        Moves S.connections S.readings station.old station.new [] (reply_to config.now store.old (Good h body) reading close) [] }
-    ensures failed { IsTrue S.tells → (h : RequestHead) (behind body : List ℕ) → Reads desk.now.unread h behind → content_length h ≡ Some (length body)
-        → spans.now.content_length ≡ length body → result ≡ Ok false →
-        (k : ℕ) × Moves S.connections S.readings station.old station.new [] (take k (reply_to config.now store.old (Good h body) reading close)) [] }
-    ensures store { (h : RequestHead) (behind body : List ℕ) → Reads desk.now.unread h behind → content_length h ≡ Some (length body)
-        → spans.now.content_length ≡ length body → OnOk result (store.new ≡ after config.now store.old (Good h body) reading) }
-    ensures memory { IsTrue S.tells → OnErr result (Moves S.connections S.readings station.old station.new [] [] []) }
+    ensures sent { IsTrue S.tells →
+        AtFront desk.now.unread spans.now
+        (λ m. result ≡ Ok true → Moves S.connections S.readings station.old station.new []
+        (reply_to config.now store.old m reading close) []) }
+    ensures failed { IsTrue S.tells →
+        AtFront desk.now.unread spans.now
+        (λ m. result ≡ Ok false → (k : ℕ)
+        × Moves S.connections S.readings station.old station.new []
+        (take k (reply_to config.now store.old m reading close)) []) }
+    ensures store { AtFront desk.now.unread spans.now
+        (λ m. OnOk result (store.new ≡ after config.now store.old m reading)) }
+    ensures memory { IsTrue S.tells →
+        OnErr result (Moves S.connections S.readings station.old station.new [] [] []) }
     ensures connected { S.is_connected station.new ≡ true }
-    ensures send { result ≡ Ok false → HasRisen (S.send_faults station.old) (S.send_faults station.new) }
-    ensures send_here { IsTrue S.tells → result ≡ Ok false → HasRisen (current (S.connections station.old)).sends_failed (current (S.connections station.new)).sends_failed }
+    ensures send { result ≡ Ok false →
+        HasRisen (S.send_faults station.old) (S.send_faults station.new) }
+    ensures send_here { IsTrue S.tells → result ≡ Ok false →
+        SendFailed S.connections station.old station.new }
     ensures receives { S.receive_faults station.new ≡ S.receive_faults station.old }
     ensures sends { S.send_faults station.old ≤ S.send_faults station.new }
-    ensures beside { SameBeside S.is_listening S.addresses S.folders S.to_come S.accept_faults station.old station.new }
+    ensures beside { SameBeside S.is_listening S.addresses S.folders S.to_come S.accept_faults
+        station.old station.new }
 {
     let reply = match reply_of(alloc, desk, spans, store, config, reading, close) {
         Ok(reply) => reply,
@@ -198,19 +209,28 @@ pub fn answer<S: Station>(
     requires good { IsStep desk.old.unread desk.old.head (step.Head spans.now) }
     requires small { spans.now.content_length ≤ 2 ^ 33 }
     requires below { count < 1000 }
-    ensures turn { IsTrue S.tells → IfOk result (λ end. (got sent moments : List ℕ) × Moves S.connections S.readings station.old station.new got sent moments
-        × IsTurn config.now count (desk.old.unread ++ got) desk.new.unread store.old store.new sent moments (current (S.connections station.new)).coming end) }
-    ensures memory { IsTrue S.tells → OnErr result ((got sent moments : List ℕ) × (new : State) × Moves S.connections S.readings station.old station.new got sent moments
-        × Breaks config.now count (desk.old.unread ++ got) store.old new sent moments) }
+    ensures turn { IsTrue S.tells →
+        IfOk result (λ end. Turns S.connections S.readings config.now count station.old station.new
+        desk.old.unread desk.new.unread store.old store.new end) }
+    ensures memory { IsTrue S.tells →
+        OnErr result (BreaksOff S.connections S.readings config.now count station.old station.new
+        desk.old.unread store.old) }
     ensures below { result ≡ Ok None → count + 1 < 1000 }
     ensures connected { S.is_connected station.new ≡ true }
-    ensures read { IfOk result (λ end. end ≡ Some End.ReadFault → HasRisen (S.receive_faults station.old) (S.receive_faults station.new)) }
-    ensures read_here { IsTrue S.tells → IfOk result (λ end. end ≡ Some End.ReadFault → HasRisen (current (S.connections station.old)).receives_failed (current (S.connections station.new)).receives_failed) }
-    ensures send { IfOk result (λ end. end ≡ Some End.SendFault → HasRisen (S.send_faults station.old) (S.send_faults station.new)) }
-    ensures send_here { IsTrue S.tells → IfOk result (λ end. end ≡ Some End.SendFault → HasRisen (current (S.connections station.old)).sends_failed (current (S.connections station.new)).sends_failed) }
+    ensures read { IfOk result (λ end. end ≡ Some End.ReadFault →
+        HasRisen (S.receive_faults station.old) (S.receive_faults station.new)) }
+    ensures read_here { IsTrue S.tells →
+        IfOk result (λ end. end ≡ Some End.ReadFault →
+        ReceiveFailed S.connections station.old station.new) }
+    ensures send { IfOk result (λ end. end ≡ Some End.SendFault →
+        HasRisen (S.send_faults station.old) (S.send_faults station.new)) }
+    ensures send_here { IsTrue S.tells →
+        IfOk result (λ end. end ≡ Some End.SendFault →
+        SendFailed S.connections station.old station.new) }
     ensures receives { S.receive_faults station.old ≤ S.receive_faults station.new }
     ensures sends { S.send_faults station.old ≤ S.send_faults station.new }
-    ensures beside { SameBeside S.is_listening S.addresses S.folders S.to_come S.accept_faults station.old station.new }
+    ensures beside { SameBeside S.is_listening S.addresses S.folders S.to_come S.accept_faults
+        station.old station.new }
 {
     let reading = now(station);
     let length = desk.unread.count();

@@ -1,26 +1,32 @@
 // Taking the rest of a body.
-ghost use Rattle.std.specs.Prelude.{◌≡◌, ◌<◌, ◌≤◌, ◌+◌, [], ◌∷◌, ℕ, List, IsTrue, length, true, IfOk, IfErr, OnErr};
-ghost use Rattle.glacier_base.specs.Outside.{HasCause, HasRisen};
-ghost use Rattle.glacier_server.specs.Moves.{Moves, SameBeside, current};
+ghost use Rattle.std.specs.Prelude.{◌≡◌, ◌<◌, ◌≤◌, [], IsTrue, length, true, IfOk, IfErr, OnErr};
+ghost use Rattle.glacier_base.specs.Outside.{HasCause};
+ghost use Rattle.glacier_server.specs.Moves.{Moves, TakesOf, SameBeside, ReceiveFailed, NoneComing};
 
 use crate::moves::receive;
 use glacier_base::Failed;
 use glacier_disk::Station;
 
-/// Takes one piece of a body, of which so many bytes are missing, and no byte behind it. It answers how many are missing then.
+/// Takes one piece of a body, of which so many bytes are missing, and no byte behind it. It answers
+/// how many are missing then.
 fn take_piece<S: Station>(station: &mut S, piece: &mut [u8], left: u64) -> Result<u64, Failed>
     requires connected { S.is_connected station.old ≡ true }
     requires room { 0 < length piece.old }
     requires some { 0 < left }
-    ensures takes { IsTrue S.tells → IfOk result (λ now. (got : List ℕ) × (now + length got ≡ left) × Moves S.connections S.readings station.old station.new got [] []) }
+    ensures takes { IsTrue S.tells →
+        IfOk result (λ now. TakesOf S.connections S.readings station.old station.new left now) }
     ensures fewer { IfOk result (λ now. now ≤ left) }
-    ensures end { IsTrue S.tells → IfOk result (λ now. now ≡ left → (current (S.connections station.new)).coming ≡ []) }
-    ensures failed { IsTrue S.tells → OnErr result (Moves S.connections S.readings station.old station.new [] [] []) }
-    ensures here { IsTrue S.tells → OnErr result (HasRisen (current (S.connections station.old)).receives_failed (current (S.connections station.new)).receives_failed) }
+    ensures end { IsTrue S.tells →
+        IfOk result (λ now. now ≡ left → NoneComing S.connections station.new) }
+    ensures failed { IsTrue S.tells →
+        OnErr result (Moves S.connections S.readings station.old station.new [] [] []) }
+    ensures here { IsTrue S.tells →
+        OnErr result (ReceiveFailed S.connections station.old station.new) }
     ensures connected { S.is_connected station.new ≡ true }
     ensures cause { HasCause (S.receive_faults station.old) (S.receive_faults station.new) result }
     ensures sends { S.send_faults station.new ≡ S.send_faults station.old }
-    ensures beside { SameBeside S.is_listening S.addresses S.folders S.to_come S.accept_faults station.old station.new }
+    ensures beside { SameBeside S.is_listening S.addresses S.folders S.to_come S.accept_faults
+        station.old station.new }
 {
     let most = if left < piece.len() as u64 {
         left as usize
@@ -34,7 +40,8 @@ fn take_piece<S: Station>(station: &mut S, piece: &mut [u8], left: u64) -> Resul
     }
 }
 
-/// Takes what is missing of a body, piece after piece, until it is whole or the input ends. It answers how many bytes are missing then.
+/// Takes what is missing of a body, piece after piece, until it is whole or the input ends. It
+/// answers how many bytes are missing then.
 pub fn take_rest<S: Station>(
     station: &mut S,
     piece: &mut [u8],
@@ -42,15 +49,22 @@ pub fn take_rest<S: Station>(
 ) -> Result<u64, (Failed, u64)>
     requires connected { S.is_connected station.old ≡ true }
     requires room { 0 < length piece.old }
-    ensures takes { IsTrue S.tells → IfOk result (λ left. (got : List ℕ) × (left + length got ≡ missing) × Moves S.connections S.readings station.old station.new got [] []) }
+    ensures takes { IsTrue S.tells →
+        IfOk result (λ left. TakesOf S.connections S.readings station.old station.new missing
+        left) }
     ensures within { IfOk result (λ left. left ≤ missing) }
-    ensures end { IsTrue S.tells → IfOk result (λ left. 0 < left → (current (S.connections station.new)).coming ≡ []) }
-    ensures failed { IsTrue S.tells → IfErr result (λ e. (got : List ℕ) × (e.1 + length got ≡ missing) × (0 < e.1) × Moves S.connections S.readings station.old station.new got [] []) }
-    ensures here { IsTrue S.tells → OnErr result (HasRisen (current (S.connections station.old)).receives_failed (current (S.connections station.new)).receives_failed) }
+    ensures end { IsTrue S.tells →
+        IfOk result (λ left. 0 < left → NoneComing S.connections station.new) }
+    ensures failed { IsTrue S.tells →
+        IfErr result (λ e. TakesOf S.connections S.readings station.old station.new missing e.1) }
+    ensures some { IfErr result (λ e. 0 < e.1) }
+    ensures here { IsTrue S.tells →
+        OnErr result (ReceiveFailed S.connections station.old station.new) }
     ensures connected { S.is_connected station.new ≡ true }
     ensures cause { HasCause (S.receive_faults station.old) (S.receive_faults station.new) result }
     ensures sends { S.send_faults station.new ≡ S.send_faults station.old }
-    ensures beside { SameBeside S.is_listening S.addresses S.folders S.to_come S.accept_faults station.old station.new }
+    ensures beside { SameBeside S.is_listening S.addresses S.folders S.to_come S.accept_faults
+        station.old station.new }
 {
     let mut left = missing;
     while left > 0 {

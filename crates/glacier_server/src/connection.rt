@@ -1,11 +1,10 @@
 // A connection from its first byte to its end.
-ghost use Rattle.std.specs.Prelude.{◌≡◌, ◌≢◌, ◌+◌, ◌++◌, [], ◌∷◌, ◌<◌, ◌≤◌, ℕ, List, IsTrue, Option, Some, None, true, IfOk, OnErr};
+ghost use Rattle.std.specs.Prelude.{◌≡◌, ◌≢◌, ◌+◌, ◌<◌, ◌≤◌, IsTrue, Option, Some, None, true, IfOk, IfErr, OnErr};
 ghost use Rattle.glacier_base.specs.Outside.{HasRisen};
 ghost use Rattle.glacier_http.specs.Messages.{end_of_rest};
-ghost use Rattle.glacier_server.specs.Machine.{State};
-ghost use Rattle.glacier_server.specs.Moves.{Moves, SameBeside, current};
-ghost use Rattle.glacier_server.specs.Served.{Served, Part};
-ghost use Rattle.glacier_server.specs.Turn.{IsTurn, Breaks, end_for};
+ghost use Rattle.glacier_server.specs.Moves.{SameBeside, ReceiveFailed, SendFailed};
+ghost use Rattle.glacier_server.specs.Served.{ServedLast, PartLast};
+ghost use Rattle.glacier_server.specs.Turn.{Turns, BreaksOff, end_for};
 
 use crate::answer::{Desk, answer, refuse};
 use crate::end::{End, ServeFault};
@@ -43,19 +42,28 @@ fn one_message<S: Station>(
 ) -> Result<Option<End>, Memory>
     requires connected { S.is_connected station.old ≡ true }
     requires below { count < 1000 }
-    ensures turn { IsTrue S.tells → IfOk result (λ end. (got sent moments : List ℕ) × Moves S.connections S.readings station.old station.new got sent moments
-        × IsTurn config.now count (desk.old.unread ++ got) desk.new.unread store.old store.new sent moments (current (S.connections station.new)).coming end) }
-    ensures memory { IsTrue S.tells → OnErr result ((got sent moments : List ℕ) × (new : State) × Moves S.connections S.readings station.old station.new got sent moments
-        × Breaks config.now count (desk.old.unread ++ got) store.old new sent moments) }
+    ensures turn { IsTrue S.tells →
+        IfOk result (λ end. Turns S.connections S.readings config.now count station.old station.new
+        desk.old.unread desk.new.unread store.old store.new end) }
+    ensures memory { IsTrue S.tells →
+        OnErr result (BreaksOff S.connections S.readings config.now count station.old station.new
+        desk.old.unread store.old) }
     ensures below { result ≡ Ok None → count + 1 < 1000 }
     ensures connected { S.is_connected station.new ≡ true }
-    ensures read { IfOk result (λ end. end ≡ Some End.ReadFault → HasRisen (S.receive_faults station.old) (S.receive_faults station.new)) }
-    ensures read_here { IsTrue S.tells → IfOk result (λ end. end ≡ Some End.ReadFault → HasRisen (current (S.connections station.old)).receives_failed (current (S.connections station.new)).receives_failed) }
-    ensures send { IfOk result (λ end. end ≡ Some End.SendFault → HasRisen (S.send_faults station.old) (S.send_faults station.new)) }
-    ensures send_here { IsTrue S.tells → IfOk result (λ end. end ≡ Some End.SendFault → HasRisen (current (S.connections station.old)).sends_failed (current (S.connections station.new)).sends_failed) }
+    ensures read { IfOk result (λ end. end ≡ Some End.ReadFault →
+        HasRisen (S.receive_faults station.old) (S.receive_faults station.new)) }
+    ensures read_here { IsTrue S.tells →
+        IfOk result (λ end. end ≡ Some End.ReadFault →
+        ReceiveFailed S.connections station.old station.new) }
+    ensures send { IfOk result (λ end. end ≡ Some End.SendFault →
+        HasRisen (S.send_faults station.old) (S.send_faults station.new)) }
+    ensures send_here { IsTrue S.tells →
+        IfOk result (λ end. end ≡ Some End.SendFault →
+        SendFailed S.connections station.old station.new) }
     ensures receives { S.receive_faults station.old ≤ S.receive_faults station.new }
     ensures sends { S.send_faults station.old ≤ S.send_faults station.new }
-    ensures beside { SameBeside S.is_listening S.addresses S.folders S.to_come S.accept_faults station.old station.new }
+    ensures beside { SameBeside S.is_listening S.addresses S.folders S.to_come S.accept_faults
+        station.old station.new }
 {
     match find_head(station, &mut desk.head, &mut desk.unread) {
         Ok(Found::Head(spans)) => {
@@ -81,19 +89,26 @@ pub fn serve_connection<S: Station>(
     config: &Config,
 ) -> Result<(End, Store), ServeFault>
     requires { S.is_connected station.old ≡ true }
-    ensures served { IsTrue S.tells → IfOk result (λ r. (taken sent moments : List ℕ) × Moves S.connections S.readings station.old station.new taken sent moments
-        × Served config.now taken sent moments (current (S.connections station.new)).coming store r.1 r.0) }
-    ensures memory { IsTrue S.tells → OnErr result ((taken sent moments : List ℕ) × (new : State) × Moves S.connections S.readings station.old station.new taken sent moments
-        × Part config.now taken sent moments store new) }
-    ensures fault { Rattle.std.specs.Prelude.IfErr result (λ fault. fault ≡ ServeFault.Memory) }
+    ensures served { IsTrue S.tells →
+        IfOk result (λ r. ServedLast S.connections S.readings config.now station.old station.new
+        store r.1 r.0) }
+    ensures memory { IsTrue S.tells →
+        OnErr result (PartLast S.connections S.readings config.now station.old station.new store) }
+    ensures fault { IfErr result (λ fault. fault ≡ ServeFault.Memory) }
     ensures connected { S.is_connected station.new ≡ true }
-    ensures read { IfOk result (λ r. r.0 ≡ End.ReadFault → HasRisen (S.receive_faults station.old) (S.receive_faults station.new)) }
-    ensures read_here { IsTrue S.tells → IfOk result (λ r. r.0 ≡ End.ReadFault → HasRisen (current (S.connections station.old)).receives_failed (current (S.connections station.new)).receives_failed) }
-    ensures send { IfOk result (λ r. r.0 ≡ End.SendFault → HasRisen (S.send_faults station.old) (S.send_faults station.new)) }
-    ensures send_here { IsTrue S.tells → IfOk result (λ r. r.0 ≡ End.SendFault → HasRisen (current (S.connections station.old)).sends_failed (current (S.connections station.new)).sends_failed) }
+    ensures read { IfOk result (λ r. r.0 ≡ End.ReadFault →
+        HasRisen (S.receive_faults station.old) (S.receive_faults station.new)) }
+    ensures read_here { IsTrue S.tells →
+        IfOk result (λ r. r.0 ≡ End.ReadFault →
+        ReceiveFailed S.connections station.old station.new) }
+    ensures send { IfOk result (λ r. r.0 ≡ End.SendFault →
+        HasRisen (S.send_faults station.old) (S.send_faults station.new)) }
+    ensures send_here { IsTrue S.tells →
+        IfOk result (λ r. r.0 ≡ End.SendFault → SendFailed S.connections station.old station.new) }
     ensures receives { S.receive_faults station.old ≤ S.receive_faults station.new }
     ensures sends { S.send_faults station.old ≤ S.send_faults station.new }
-    ensures beside { SameBeside S.is_listening S.addresses S.folders S.to_come S.accept_faults station.old station.new }
+    ensures beside { SameBeside S.is_listening S.addresses S.folders S.to_come S.accept_faults
+        station.old station.new }
 {
     let mut desk = match Desk::new(alloc) {
         Ok(desk) => desk,

@@ -1,10 +1,10 @@
 // Finding the next head.
-ghost use Rattle.std.specs.Prelude.{◌≡◌, ◌≤◌, ◌++◌, [], ◌∷◌, ℕ, List, IsTrue, true, IfOk, OnErr};
-ghost use Rattle.glacier_base.specs.Outside.{HasCause, HasRisen};
+ghost use Rattle.std.specs.Prelude.{◌≡◌, IsTrue, true, IfOk, OnErr};
+ghost use Rattle.glacier_base.specs.Outside.{HasCause};
 ghost use Rattle.glacier_http.specs.Step.{IsStep};
 ghost use Rattle.glacier_http.specs.declared.head_spans.HeadStep.TheVariants as step;
 ghost use Rattle.glacier_server.specs.Finding.{IsFound};
-ghost use Rattle.glacier_server.specs.Moves.{Moves, SameBeside, current};
+ghost use Rattle.glacier_server.specs.Moves.{TakesBehind, SameBeside, ReceiveFailed, NoneComing};
 
 use crate::unread::Unread;
 use glacier_base::Failed;
@@ -29,13 +29,16 @@ pub fn find_head<S: Station>(
     requires { S.is_connected station.old ≡ true }
     ensures found { IfOk result (λ found. IsFound unread.new room.new found) }
     ensures failed { OnErr result (IsStep unread.new room.new step.Need) }
-    ensures moves { IsTrue S.tells → (got : List ℕ) × (unread.new ≡ unread.old ++ got) × Moves S.connections S.readings station.old station.new got [] [] }
-    ensures here { IsTrue S.tells → OnErr result (HasRisen (current (S.connections station.old)).receives_failed (current (S.connections station.new)).receives_failed) }
-    ensures end { IsTrue S.tells → result ≡ Ok Found.Ended → (current (S.connections station.new)).coming ≡ [] }
+    ensures moves { IsTrue S.tells →
+        TakesBehind S.connections S.readings station.old station.new unread.old unread.new }
+    ensures here { IsTrue S.tells →
+        OnErr result (ReceiveFailed S.connections station.old station.new) }
+    ensures end { IsTrue S.tells → result ≡ Ok Found.Ended → NoneComing S.connections station.new }
     ensures connected { S.is_connected station.new ≡ true }
     ensures cause { HasCause (S.receive_faults station.old) (S.receive_faults station.new) result }
     ensures sends { S.send_faults station.new ≡ S.send_faults station.old }
-    ensures beside { SameBeside S.is_listening S.addresses S.folders S.to_come S.accept_faults station.old station.new }
+    ensures beside { SameBeside S.is_listening S.addresses S.folders S.to_come S.accept_faults
+        station.old station.new }
 {
     'search: loop {
         match read_head(unread.bytes(), room) {

@@ -1,7 +1,7 @@
 // The calls of a station as moves of its last connection.
-ghost use Rattle.std.specs.Prelude.{◌≡◌, ◌<◌, ◌≤◌, [], ◌∷◌, ℕ, List, IsTrue, length, take, true, slice_index, IfOk, OnOk, OnErr};
-ghost use Rattle.glacier_base.specs.Outside.{HasCause, HasRisen};
-ghost use Rattle.glacier_server.specs.Moves.{Moves, SameBeside, current};
+ghost use Rattle.std.specs.Prelude.{◌≡◌, ◌<◌, ◌≤◌, [], ◌∷◌, ℕ, IsTrue, length, take, true, slice_index, IfOk, OnOk, OnErr};
+ghost use Rattle.glacier_base.specs.Outside.{HasCause};
+ghost use Rattle.glacier_server.specs.Moves.{Moves, SameBeside, ReceiveFailed, SendFailed, NoneComing};
 
 use glacier_base::{Failed, Moment};
 use glacier_disk::Station;
@@ -11,15 +11,20 @@ pub fn receive<S: Station>(station: &mut S, into: &mut [u8]) -> Result<usize, Fa
     requires connected { S.is_connected station.old ≡ true }
     requires room { 0 < length into.old }
     ensures within { IfOk result (λ n. n ≤ length into.old) }
-    ensures takes { IsTrue S.tells → IfOk result (λ n. Moves S.connections S.readings station.old station.new (take n into.new) [] []) }
-    ensures failed { IsTrue S.tells → OnErr result (Moves S.connections S.readings station.old station.new [] [] []) }
-    ensures here { IsTrue S.tells → OnErr result (HasRisen (current (S.connections station.old)).receives_failed (current (S.connections station.new)).receives_failed) }
-    ensures end { IsTrue S.tells → result ≡ Ok 0 → (current (S.connections station.new)).coming ≡ [] }
+    ensures takes { IsTrue S.tells →
+        IfOk result (λ n. Moves S.connections S.readings station.old station.new (take n into.new)
+        [] []) }
+    ensures failed { IsTrue S.tells →
+        OnErr result (Moves S.connections S.readings station.old station.new [] [] []) }
+    ensures here { IsTrue S.tells →
+        OnErr result (ReceiveFailed S.connections station.old station.new) }
+    ensures end { IsTrue S.tells → result ≡ Ok 0 → NoneComing S.connections station.new }
     ensures fits { (k : ℕ) → slice_index into.new k < 256 }
     ensures connected { S.is_connected station.new ≡ true }
     ensures cause { HasCause (S.receive_faults station.old) (S.receive_faults station.new) result }
     ensures sends { S.send_faults station.new ≡ S.send_faults station.old }
-    ensures beside { SameBeside S.is_listening S.addresses S.folders S.to_come S.accept_faults station.old station.new }
+    ensures beside { SameBeside S.is_listening S.addresses S.folders S.to_come S.accept_faults
+        station.old station.new }
 {
     match station.receive(into) {
         Ok(count) => Ok(count),
@@ -30,13 +35,18 @@ pub fn receive<S: Station>(station: &mut S, into: &mut [u8]) -> Result<usize, Fa
 /// Sends the bytes, or a first part of them.
 pub fn send<S: Station>(station: &mut S, bytes: &[u8]) -> Result<(), Failed>
     requires { S.is_connected station.old ≡ true }
-    ensures sends { IsTrue S.tells → OnOk result (Moves S.connections S.readings station.old station.new [] bytes.now []) }
-    ensures failed { IsTrue S.tells → OnErr result ((n : ℕ) × Moves S.connections S.readings station.old station.new [] (take n bytes.now) []) }
-    ensures here { IsTrue S.tells → OnErr result (HasRisen (current (S.connections station.old)).sends_failed (current (S.connections station.new)).sends_failed) }
+    ensures sends { IsTrue S.tells →
+        OnOk result (Moves S.connections S.readings station.old station.new [] bytes.now []) }
+    ensures failed { IsTrue S.tells →
+        OnErr result ((n : ℕ) × Moves S.connections S.readings station.old station.new []
+        (take n bytes.now) []) }
+    ensures here { IsTrue S.tells →
+        OnErr result (SendFailed S.connections station.old station.new) }
     ensures connected { S.is_connected station.new ≡ true }
     ensures cause { HasCause (S.send_faults station.old) (S.send_faults station.new) result }
     ensures receives { S.receive_faults station.new ≡ S.receive_faults station.old }
-    ensures beside { SameBeside S.is_listening S.addresses S.folders S.to_come S.accept_faults station.old station.new }
+    ensures beside { SameBeside S.is_listening S.addresses S.folders S.to_come S.accept_faults
+        station.old station.new }
 {
     match station.send(bytes) {
         Ok(()) => Ok(()),
@@ -47,11 +57,13 @@ pub fn send<S: Station>(station: &mut S, bytes: &[u8]) -> Result<(), Failed>
 /// Takes a reading.
 pub fn now<S: Station>(station: &mut S) -> Moment
     requires { S.is_connected station.old ≡ true }
-    ensures reads { IsTrue S.tells → Moves S.connections S.readings station.old station.new [] [] (result ∷ []) }
+    ensures reads { IsTrue S.tells →
+        Moves S.connections S.readings station.old station.new [] [] (result ∷ []) }
     ensures connected { S.is_connected station.new ≡ true }
     ensures receives { S.receive_faults station.new ≡ S.receive_faults station.old }
     ensures sends { S.send_faults station.new ≡ S.send_faults station.old }
-    ensures beside { SameBeside S.is_listening S.addresses S.folders S.to_come S.accept_faults station.old station.new }
+    ensures beside { SameBeside S.is_listening S.addresses S.folders S.to_come S.accept_faults
+        station.old station.new }
 {
     station.now()
 }

@@ -1,8 +1,8 @@
 // The connections that come, one after another.
-ghost use Rattle.std.specs.Prelude.{◌≡◌, ◌+◌, ◌++◌, [], ◌∷◌, ◌<◌, ◌≤◌, ℕ, List, Bool, IsTrue, true, false, IfOk, IfErr, OnErr, if◌then◌else◌};
+ghost use Rattle.std.specs.Prelude.{◌≡◌, ◌+◌, ◌<◌, ◌≤◌, IsTrue, true, false, IfOk, IfErr, if◌then◌else◌};
 ghost use Rattle.glacier_base.specs.Outside.{HasRisen};
-ghost use Rattle.glacier_disk.specs.Network.{accepted};
-ghost use Rattle.glacier_server.specs.Serving.{Serves, Breaks};
+ghost use Rattle.glacier_server.specs.Moves.{SameNames};
+ghost use Rattle.glacier_server.specs.Serving.{Serves, Breaks, JustAccepted};
 
 use crate::connection::serve_connection;
 use crate::end::ServeFault;
@@ -18,14 +18,19 @@ fn serve_accepted<S: Station>(
     config: &Config,
 ) -> Result<Store, ServeFault>
     requires { S.is_connected station.old ≡ true }
-    ensures served { IsTrue S.tells → (old : S) (input : List ℕ) → S.connections station.old ≡ S.connections old ++ accepted input ∷ [] → S.readings station.old ≡ S.readings old → S.to_come old ≡ 1 + S.to_come station.old
-        → IfOk result (λ after. Serves S.connections S.readings S.to_come config.now old station.new store after 1) }
-    ensures broken { IsTrue S.tells → (old : S) (input : List ℕ) → S.connections station.old ≡ S.connections old ++ accepted input ∷ [] → S.readings station.old ≡ S.readings old
-        → IfErr result (λ fault. Breaks S.connections S.readings config.now old station.new store fault) }
+    ensures served { IsTrue S.tells → (old : S) →
+        JustAccepted S.connections S.readings old station.old →
+        S.to_come old ≡ 1 + S.to_come station.old →
+        IfOk result (λ after. Serves S.connections S.readings S.to_come config.now old station.new
+        store after 1) }
+    ensures broken { IsTrue S.tells → (old : S) →
+        JustAccepted S.connections S.readings old station.old →
+        IfErr result (λ fault. Breaks S.connections S.readings config.now old station.new store
+        fault) }
     ensures fault { IfErr result (λ fault. fault ≡ ServeFault.Memory) }
     ensures closed { S.is_connected station.new ≡ false }
     ensures listening { S.is_listening station.new ≡ S.is_listening station.old }
-    ensures names { (S.addresses station.new ≡ S.addresses station.old) × (S.folders station.new ≡ S.folders station.old) }
+    ensures names { SameNames S.addresses S.folders station.old station.new }
     ensures accepts { S.accept_faults station.new ≡ S.accept_faults station.old }
     ensures receives { S.receive_faults station.old ≤ S.receive_faults station.new }
     ensures sends { S.send_faults station.old ≤ S.send_faults station.new }
@@ -51,14 +56,19 @@ fn serve_next<S: Station>(
 ) -> Result<(bool, Store), ServeFault>
     requires listening { S.is_listening station.old ≡ true }
     requires free { S.is_connected station.old ≡ false }
-    ensures served { IsTrue S.tells → IfOk result (λ r. Serves S.connections S.readings S.to_come config.now station.old station.new store r.1 (if r.0 then 1 else 0)) }
-    ensures broken { IsTrue S.tells → IfErr result (λ fault. Breaks S.connections S.readings config.now station.old station.new store fault) }
+    ensures served { IsTrue S.tells →
+        IfOk result (λ r. Serves S.connections S.readings S.to_come config.now station.old
+        station.new store r.1 (if r.0 then 1 else 0)) }
+    ensures broken { IsTrue S.tells →
+        IfErr result (λ fault. Breaks S.connections S.readings config.now station.old station.new
+        store fault) }
     ensures none { IsTrue S.tells → IfOk result (λ r. r.0 ≡ false → S.to_come station.new ≡ 0) }
-    ensures accept { IfErr result (λ fault. fault ≡ ServeFault.Accept → HasRisen (S.accept_faults station.old) (S.accept_faults station.new)) }
+    ensures accept { IfErr result (λ fault. fault ≡ ServeFault.Accept →
+        HasRisen (S.accept_faults station.old) (S.accept_faults station.new)) }
     ensures accepts { S.accept_faults station.old ≤ S.accept_faults station.new }
     ensures free { S.is_connected station.new ≡ false }
     ensures listening { S.is_listening station.new ≡ true }
-    ensures names { (S.addresses station.new ≡ S.addresses station.old) × (S.folders station.new ≡ S.folders station.old) }
+    ensures names { SameNames S.addresses S.folders station.old station.new }
     ensures receives { S.receive_faults station.old ≤ S.receive_faults station.new }
     ensures sends { S.send_faults station.old ≤ S.send_faults station.new }
 {
@@ -83,15 +93,21 @@ pub fn serve<S: Station>(
 ) -> Result<(u64, Store), ServeFault>
     requires listening { S.is_listening station.old ≡ true }
     requires free { S.is_connected station.old ≡ false }
-    ensures served { IsTrue S.tells → IfOk result (λ r. Serves S.connections S.readings S.to_come config.now station.old station.new store r.1 r.0) }
-    ensures broken { IsTrue S.tells → IfErr result (λ fault. Breaks S.connections S.readings config.now station.old station.new store fault) }
+    ensures served { IsTrue S.tells →
+        IfOk result (λ r. Serves S.connections S.readings S.to_come config.now station.old
+        station.new store r.1 r.0) }
+    ensures broken { IsTrue S.tells →
+        IfErr result (λ fault. Breaks S.connections S.readings config.now station.old station.new
+        store fault) }
     ensures most { IfOk result (λ r. r.0 ≤ connections) }
-    ensures fewer { IsTrue S.tells → IfOk result (λ r. r.0 < connections → S.to_come station.new ≡ 0) }
-    ensures accept { IfErr result (λ fault. fault ≡ ServeFault.Accept → HasRisen (S.accept_faults station.old) (S.accept_faults station.new)) }
+    ensures fewer { IsTrue S.tells →
+        IfOk result (λ r. r.0 < connections → S.to_come station.new ≡ 0) }
+    ensures accept { IfErr result (λ fault. fault ≡ ServeFault.Accept →
+        HasRisen (S.accept_faults station.old) (S.accept_faults station.new)) }
     ensures accepts { S.accept_faults station.old ≤ S.accept_faults station.new }
     ensures free { S.is_connected station.new ≡ false }
     ensures listening { S.is_listening station.new ≡ true }
-    ensures names { (S.addresses station.new ≡ S.addresses station.old) × (S.folders station.new ≡ S.folders station.old) }
+    ensures names { SameNames S.addresses S.folders station.old station.new }
     ensures receives { S.receive_faults station.old ≤ S.receive_faults station.new }
     ensures sends { S.send_faults station.old ≤ S.send_faults station.new }
 {

@@ -1,7 +1,7 @@
 // The bytes that were taken and not yet used.
-ghost use Rattle.std.specs.Prelude.{◌≡◌, ◌<◌, ◌≤◌, ◌++◌, ◌-◌, [], ◌∷◌, ℕ, List, IsTrue, length, take, drop, true, false, IfOk, OnErr};
-ghost use Rattle.glacier_base.specs.Outside.{HasCause, HasRisen};
-ghost use Rattle.glacier_server.specs.Moves.{Moves, SameBeside, current};
+ghost use Rattle.std.specs.Prelude.{◌≡◌, ◌<◌, ◌≤◌, ◌-◌, [], ℕ, List, IsTrue, length, take, drop, true, false, IfOk, OnErr};
+ghost use Rattle.glacier_base.specs.Outside.{HasCause};
+ghost use Rattle.glacier_server.specs.Moves.{Moves, TakesBehind, SameBeside, ReceiveFailed, NoneComing};
 
 use crate::moves::receive;
 use glacier_base::{Failed, Memory};
@@ -25,7 +25,8 @@ impl Model for Unread {
 
     ghost view = { λ u. drop u.start (take u.end u.buffer.items) };
 
-    ghost invariant = { λ u. (u.start ≤ u.end) × (u.end ≤ length u.buffer.items) × (length u.buffer.items ≡ 16384) };
+    ghost invariant = { λ u. (u.start ≤ u.end) × (u.end ≤ length u.buffer.items)
+        × (length u.buffer.items ≡ 16384) };
 }
 
 /// Moves a stretch of the buffer to its front.
@@ -43,14 +44,19 @@ fn receive_at<S: Station>(station: &mut S, buffer: &mut [u8], end: usize) -> Res
     requires room { end < length buffer.old }
     ensures within { IfOk result (λ n. n ≤ length buffer.old - end) }
     ensures before { take end buffer.new ≡ take end buffer.old }
-    ensures takes { IsTrue S.tells → IfOk result (λ n. Moves S.connections S.readings station.old station.new (take n (drop end buffer.new)) [] []) }
-    ensures failed { IsTrue S.tells → OnErr result (Moves S.connections S.readings station.old station.new [] [] []) }
-    ensures here { IsTrue S.tells → OnErr result (HasRisen (current (S.connections station.old)).receives_failed (current (S.connections station.new)).receives_failed) }
-    ensures end { IsTrue S.tells → result ≡ Ok 0 → (current (S.connections station.new)).coming ≡ [] }
+    ensures takes { IsTrue S.tells →
+        IfOk result (λ n. Moves S.connections S.readings station.old station.new
+        (take n (drop end buffer.new)) [] []) }
+    ensures failed { IsTrue S.tells →
+        OnErr result (Moves S.connections S.readings station.old station.new [] [] []) }
+    ensures here { IsTrue S.tells →
+        OnErr result (ReceiveFailed S.connections station.old station.new) }
+    ensures end { IsTrue S.tells → result ≡ Ok 0 → NoneComing S.connections station.new }
     ensures connected { S.is_connected station.new ≡ true }
     ensures cause { HasCause (S.receive_faults station.old) (S.receive_faults station.new) result }
     ensures sends { S.send_faults station.new ≡ S.send_faults station.old }
-    ensures beside { SameBeside S.is_listening S.addresses S.folders S.to_come S.accept_faults station.old station.new }
+    ensures beside { SameBeside S.is_listening S.addresses S.folders S.to_come S.accept_faults
+        station.old station.new }
 {
     receive(station, &mut buffer[end..])
 }
@@ -68,14 +74,19 @@ fn refill<S: Station>(
     requires room { end - start < length buffer.old }
     ensures within { IfOk result (λ n. n ≤ length buffer.old - (end - start)) }
     ensures kept { take (end - start) buffer.new ≡ drop start (take end buffer.old) }
-    ensures takes { IsTrue S.tells → IfOk result (λ n. Moves S.connections S.readings station.old station.new (take n (drop (end - start) buffer.new)) [] []) }
-    ensures failed { IsTrue S.tells → OnErr result (Moves S.connections S.readings station.old station.new [] [] []) }
-    ensures here { IsTrue S.tells → OnErr result (HasRisen (current (S.connections station.old)).receives_failed (current (S.connections station.new)).receives_failed) }
-    ensures end { IsTrue S.tells → result ≡ Ok 0 → (current (S.connections station.new)).coming ≡ [] }
+    ensures takes { IsTrue S.tells →
+        IfOk result (λ n. Moves S.connections S.readings station.old station.new
+        (take n (drop (end - start) buffer.new)) [] []) }
+    ensures failed { IsTrue S.tells →
+        OnErr result (Moves S.connections S.readings station.old station.new [] [] []) }
+    ensures here { IsTrue S.tells →
+        OnErr result (ReceiveFailed S.connections station.old station.new) }
+    ensures end { IsTrue S.tells → result ≡ Ok 0 → NoneComing S.connections station.new }
     ensures connected { S.is_connected station.new ≡ true }
     ensures cause { HasCause (S.receive_faults station.old) (S.receive_faults station.new) result }
     ensures sends { S.send_faults station.new ≡ S.send_faults station.old }
-    ensures beside { SameBeside S.is_listening S.addresses S.folders S.to_come S.accept_faults station.old station.new }
+    ensures beside { SameBeside S.is_listening S.addresses S.folders S.to_come S.accept_faults
+        station.old station.new }
 {
     move_front(buffer, start, end);
     receive_at(station, buffer, end - start)
@@ -121,17 +132,23 @@ impl Unread {
     pub fn fill<S: Station>(&mut self, station: &mut S) -> Result<bool, Failed>
         requires connected { S.is_connected station.old ≡ true }
         requires room { length self.old < 16384 }
-        ensures takes { IsTrue S.tells → IfOk result (λ some. (got : List ℕ) × (self.new ≡ self.old ++ got) × Moves S.connections S.readings station.old station.new got [] []) }
+        ensures takes { IsTrue S.tells →
+            IfOk result (λ some. TakesBehind S.connections S.readings station.old station.new
+            self.old self.new) }
         ensures more { result ≡ Ok true → length self.old < length self.new }
         ensures none { result ≡ Ok false → self.new ≡ self.old }
-        ensures end { IsTrue S.tells → result ≡ Ok false → (current (S.connections station.new)).coming ≡ [] }
+        ensures end { IsTrue S.tells → result ≡ Ok false → NoneComing S.connections station.new }
         ensures same { OnErr result (self.new ≡ self.old) }
-        ensures failed { IsTrue S.tells → OnErr result (Moves S.connections S.readings station.old station.new [] [] []) }
-        ensures here { IsTrue S.tells → OnErr result (HasRisen (current (S.connections station.old)).receives_failed (current (S.connections station.new)).receives_failed) }
+        ensures failed { IsTrue S.tells →
+            OnErr result (Moves S.connections S.readings station.old station.new [] [] []) }
+        ensures here { IsTrue S.tells →
+            OnErr result (ReceiveFailed S.connections station.old station.new) }
         ensures connected { S.is_connected station.new ≡ true }
-        ensures cause { HasCause (S.receive_faults station.old) (S.receive_faults station.new) result }
+        ensures cause { HasCause (S.receive_faults station.old) (S.receive_faults station.new)
+            result }
         ensures sends { S.send_faults station.new ≡ S.send_faults station.old }
-        ensures beside { SameBeside S.is_listening S.addresses S.folders S.to_come S.accept_faults station.old station.new }
+        ensures beside { SameBeside S.is_listening S.addresses S.folders S.to_come S.accept_faults
+            station.old station.new }
     {
         match refill(station, &mut self.buffer, self.start, self.end) {
             Ok(count) => {

@@ -1,13 +1,13 @@
-use Rattle.std.proofs.Common.{◌≡◌, ◌≤◌, ◌<◌, ◌-◌, ℕ, List, IsTrue, true, None}
-use Rattle.glacier_server.specs.Moves.{Moves, SameBeside}
-use Rattle.glacier_server.proofs.RunLemmas.{SoFar}
+use Rattle.std.proofs.Common.{◌≡◌, ◌≤◌, ◌<◌, ◌-◌, IsTrue, true}
+use Rattle.glacier_server.specs.Moves.{SameBeside}
+use Rattle.glacier_server.proofs.ConnectionLemmas.{SoFarLast}
 use Rattle.glacier_server.proofs.connection.serve_connection.Given as goal
 
 abbrev pub invariant-messages : goal.invariant-messages
 invariant-messages g l = record {
   below : l.count < 1000;
-  so_far : IsTrue g.S.Disk.tells → (taken sent moments : List ℕ) × Moves g.S.Station.connections g.S.Station.readings l.fn.station l.station taken sent moments
-      × SoFar l.fn.config l.count taken l.desk.unread sent moments l.initial.store l.store None;
+  so_far : IsTrue g.S.Disk.tells →
+      SoFarLast g.S.Station.connections g.S.Station.readings l.fn.config l.count l.fn.station l.station l.desk.unread l.initial.store l.store;
   connected : g.S.Station.is_connected l.station ≡ true;
   receives : g.S.Station.receive_faults l.fn.station ≤ g.S.Station.receive_faults l.station;
   sends : g.S.Station.send_faults l.fn.station ≤ g.S.Station.send_faults l.station;

@@ -1,7 +1,7 @@
-use Rattle.std.proofs.Common.{rules, ◌∙◌, ◌++◌, [], ℕ, List, ap, sym, refl, subst, arith, append-nil, append_assoc}
+use Rattle.std.proofs.Common.{rules, ◌∙◌, ℕ, List, refl, subst, arith}
 use Rattle.glacier_http.specs.Step.{IsStep}
 use Rattle.glacier_http.specs.declared.head_spans.HeadStep.TheVariants as step
-use Rattle.glacier_server.proofs.MoveLemmas.{stays, then, takes_then, risen_after}
+use Rattle.glacier_server.proofs.MoveLemmas.{behind_none, behind_more, behind_still, risen_after}
 use Rattle.glacier_server.proofs.finding.find_head.Goals as goal
 
 pub returns-in-Head-clause-found : goal.returns-in-Head-clause-found
@@ -12,7 +12,7 @@ returns-in-Bad-clause-found g c = subst (λ (l : List ℕ). IsStep l c.read_head
 
 pub search-init : goal.search-init
 search-init g c = record {
-  moves = λ t. ([], sym (append-nil _), stays g.S.Station.connections g.S.Station.readings c.args.station.now);
+  moves = λ t. behind_none g.S.Station.connections g.S.Station.readings c.args.station.now c.args.unread.now;
   connected = c.requires;
   later = omega arith;
   sends = refl;
@@ -22,12 +22,8 @@ search-init g c = record {
 pub search-preserved : goal.search-preserved
 search-preserved g c = record {
   moves = λ t.
-      let before = c.search.invariant.moves t in
-      let more = c.in-Ok-true.ensures.takes t in (
-        before.0 ++ more.0,
-        more.1 ∙ ap (λ (l : List ℕ). l ++ more.0) before.1 ∙ append_assoc c.args.unread.now before.0 more.0,
-        then g.S.Station.connections g.S.Station.readings c.args.station.now c.search.station c.fill.new.station before.0 more.0 [] [] [] [] before.2 more.2,
-      );
+      behind_more g.S.Station.connections g.S.Station.readings c.args.station.now c.search.station c.fill.new.station _ _ _
+      (c.search.invariant.moves t) (c.in-Ok-true.ensures.takes t);
   connected = search rules;
   later = grind (arith, c.search.invariant.later, c.fill.ensures.cause);
   sends = search rules;
@@ -36,20 +32,13 @@ search-preserved g c = record {
 
 pub returns-in-Ok-false-clause-moves : goal.returns-in-Ok-false-clause-moves
 returns-in-Ok-false-clause-moves g c t =
-    let before = c.search.invariant.moves t in
-    let more = c.in-Ok-false.ensures.takes t in (
-      before.0 ++ more.0,
-      more.1 ∙ ap (λ (l : List ℕ). l ++ more.0) before.1 ∙ append_assoc c.args.unread.now before.0 more.0,
-      then g.S.Station.connections g.S.Station.readings c.args.station.now c.search.station c.fill.new.station before.0 more.0 [] [] [] [] before.2 more.2,
-    )
+    behind_more g.S.Station.connections g.S.Station.readings c.args.station.now c.search.station c.fill.new.station _ _ _
+    (c.search.invariant.moves t) (c.in-Ok-false.ensures.takes t)
 
 pub returns-in-Err-clause-moves : goal.returns-in-Err-clause-moves
 returns-in-Err-clause-moves g c t =
-    let before = c.search.invariant.moves t in (
-      before.0,
-      c.in-Err.ensures.same ∙ before.1,
-      takes_then g.S.Station.connections g.S.Station.readings c.args.station.now c.search.station c.fill.new.station before.0 [] [] before.2 (c.in-Err.ensures.failed t),
-    )
+    behind_still g.S.Station.connections g.S.Station.readings c.args.station.now c.search.station c.fill.new.station _ _ _
+    (c.search.invariant.moves t) c.in-Err.ensures.same (c.in-Err.ensures.failed t)
 
 pub returns-in-Err-clause-here : goal.returns-in-Err-clause-here
-returns-in-Err-clause-here g c t = risen_after _ _ _ (c.search.invariant.moves t).2.receives (c.in-Err.ensures.here t)
+returns-in-Err-clause-here g c t = risen_after _ _ _ (c.search.invariant.moves t).moves.receives (c.in-Err.ensures.here t)

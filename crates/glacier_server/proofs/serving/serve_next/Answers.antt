@@ -6,13 +6,13 @@ pub returns-in-Ok-clause-served : goal.returns-in-Ok-clause-served
 returns-in-Ok-clause-served g c t =
     let ok = ap (λ (b : Bool). Ok b) c.in-Ok-true.field-0-test in
     let next = c.in-Ok-true.ensures.next t ok in
-    c.in-Ok.ensures.served t c.args.station.now next.0 next.1 c.accept.ensures.told.1 (omega (arith, c.in-Ok-true.ensures.fewer t ok))
+    c.in-Ok.ensures.served t c.args.station.now (next.0, next.1, c.accept.ensures.told.1) (omega (arith, c.in-Ok-true.ensures.fewer t ok))
 
 pub returns-in-Err-serve_accepted-clause-broken : goal.returns-in-Err-serve_accepted-clause-broken
 returns-in-Err-serve_accepted-clause-broken g c t =
     let ok = ap (λ (b : Bool). Ok b) c.in-Ok-true.field-0-test in
     let next = c.in-Ok-true.ensures.next t ok in
-    c.in-Err-serve_accepted.ensures.broken t c.args.station.now next.0 next.1 c.accept.ensures.told.1
+    c.in-Err-serve_accepted.ensures.broken t c.args.station.now (next.0, next.1, c.accept.ensures.told.1)
 
 pub returns-in-Ok-false-clause-served : goal.returns-in-Ok-false-clause-served
 returns-in-Ok-false-clause-served g c t =
