@@ -1,14 +1,17 @@
 //! The program: the words of the command line, and what each form of them does.
 #![tactic(auto)]
 
+mod command;
 mod ending;
 mod hash;
 mod run;
+mod serve;
 #[cfg(test)]
 mod tests;
 
 use ending::Ending;
 use glacier_base::{HostFiles, HostSink};
+use glacier_disk::HostStation;
 use run::run;
 use std::io::ErrorKind;
 use std::process::ExitCode;
@@ -35,9 +38,17 @@ fn ending_of(fault: io::Error) -> Ending {
 
 fn main(rt: HostRuntime) -> ExitCode {
     let mut files = HostFiles::new(rt, rt.alloc());
+    let mut station = HostStation::new(rt, rt.alloc());
     let mut out = HostSink::new(rt, rt.alloc());
     let status = match words_of(&rt) {
-        Ok(words) => run(&rt, rt.alloc(), &words, &mut files, &mut out),
+        Ok(words) => run(
+            &rt,
+            rt.alloc(),
+            &words,
+            &mut files,
+            &mut station,
+            &mut out,
+        ),
         Err(fault) => ending_of(fault).print(&mut out),
     };
     ExitCode::from(status)
