@@ -20,6 +20,8 @@ pub struct HostStation<R: Files<File = File> + Net + Clock + Drop> {
     pub(crate) folder: Option<Folder>,
     pub(crate) listener: Option<R::Listener>,
     pub(crate) stream: Option<R::Stream>,
+    // Whether a receive or a send on the stream has failed, so that nothing more is expected on it.
+    pub(crate) is_lost: bool,
     pub(crate) disk_faults: u64,
     pub(crate) accept_faults: u64,
     pub(crate) receive_faults: u64,
@@ -39,6 +41,7 @@ impl<R: Files<File = File> + Net + Clock + Drop> HostStation<R> {
             folder: None,
             listener: None,
             stream: None,
+            is_lost: false,
             disk_faults: 0,
             accept_faults: 0,
             receive_faults: 0,

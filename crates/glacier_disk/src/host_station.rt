@@ -80,6 +80,7 @@ impl<R: Files<File = File> + Net + Clock + Drop> Station for HostStation<R> {
         match counted(&mut self.accept_faults, accepted) {
             Ok(stream) => {
                 self.stream = Some(stream);
+                self.is_lost = false;
                 Ok(true)
             }
             Err(failed) => Err(failed),
@@ -88,21 +89,31 @@ impl<R: Files<File = File> + Net + Clock + Drop> Station for HostStation<R> {
 
     fn receive(&mut self, into: &mut [u8]) -> Result<usize, Failed> {
         match &mut self.stream {
-            Some(stream) => counted(&mut self.receive_faults, read_some(stream, into)),
+            Some(stream) => {
+                let outcome = counted(&mut self.receive_faults, read_some(stream, into));
+                self.is_lost |= outcome.is_err();
+                outcome
+            }
             None => unreachable!(),
         }
     }
 
     fn send(&mut self, bytes: &[u8]) -> Result<(), Failed> {
         match &mut self.stream {
-            Some(stream) => counted(&mut self.send_faults, write_whole(stream, bytes)),
+            Some(stream) => {
+                let outcome = counted(&mut self.send_faults, write_whole(stream, bytes));
+                self.is_lost |= outcome.is_err();
+                outcome
+            }
             None => unreachable!(),
         }
     }
 
     fn hang_up(&mut self) {
         if let Some(stream) = &mut self.stream {
-            drain(&self.rt, stream);
+            if !self.is_lost {
+                drain(&self.rt, stream);
+            }
         }
         self.stream = None;
     }
