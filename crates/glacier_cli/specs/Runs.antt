@@ -6,7 +6,7 @@ use Rattle.glacier_treehash.specs.Tree.{tree_hash_of}
 use Rattle.glacier_server.specs.declared.end.ServeFault.TheVariants.{Memory, Accept}
 use Rattle.glacier_cli.specs.declared.ending.Ending.{Ending}
 use Rattle.glacier_cli.specs.declared.ending.Ending.TheVariants.{Hashed, Served, Usage, FileFault, NoMemory, ListenerFault}
-use Rattle.glacier_cli.specs.Endings.{line_of}
+use Rattle.glacier_cli.specs.Endings.{served_line}
 use Rattle.glacier_cli.specs.Forms.{Form, hash, serve}
 use Rattle.glacier_cli.specs.Seen.{Seen, GivesNone, GivesOne, GivesAtMost, IsHashOf}
 use Rattle.glacier_cli.specs.Visits.{Visit, Idle, ListensAt, ListensAtMost, ServesAt, BreaksAt, most_connections}
@@ -43,4 +43,4 @@ PrintsHash files name old new =
 -- connections were served at this address, and their number was written
 abbrev pub PrintsServed : Visit → List ℕ → List ℕ → List ℕ → Type 0
 PrintsServed v address old new =
-    (count : ℕ) × (count ≤ most_connections) × ServesAt v address count × (new ≡ old ++ line_of (Served count))
+    (count : ℕ) × (count ≤ most_connections) × ServesAt v address count × (new ≡ old ++ served_line count)

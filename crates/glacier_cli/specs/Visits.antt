@@ -22,21 +22,26 @@ pub record Visit : Type 0 where
   pub before : Told
   pub after : Told
 
+-- what a station tells now
+abbrev pub told : {S : Type 0} → (S → List Connection) → (S → List ℕ) → (S → ℕ) → (S → List (List ℕ))
+    → (S → List (List ℕ)) → (S → ℕ) → S → Told
+told connections readings to_come addresses folders faults s = record {
+  connections = connections s;
+  readings = readings s;
+  to_come = to_come s;
+  addresses = addresses s;
+  folders = folders s;
+  faults = faults s;
+}
+
 -- what a run did that found a station in one state and left it in another
 abbrev pub visit : {S : Type 0} → Bool → (S → List Connection) → (S → List ℕ) → (S → ℕ) → (S → List (List ℕ))
     → (S → List (List ℕ)) → (S → ℕ) → S → S → Visit
-visit {S} tells connections readings to_come addresses folders faults old new =
-    record { tells = tells; before = told old; after = told new }
-  where
-    abbrev told : S → Told
-    told s = record {
-      connections = connections s;
-      readings = readings s;
-      to_come = to_come s;
-      addresses = addresses s;
-      folders = folders s;
-      faults = faults s;
-    }
+visit tells connections readings to_come addresses folders faults old new = record {
+  tells = tells;
+  before = told connections readings to_come addresses folders faults old;
+  after = told connections readings to_come addresses folders faults new;
+}
 
 -- nothing happened there
 abbrev pub Idle : Visit → Type 0

@@ -1,9 +1,11 @@
+// The tree hash of files and of standard input, and the statuses and lines of `hash`.
 use crate::run::run;
 use glacier_base::{List, MemFiles, MemSink, Text};
+use glacier_disk::{MemPlan, MemStation};
 use std::alloc::{AllocError, Global};
 use std::test::Fail;
 
-fn words(alloc: Global, line: &str) -> Result<Vec<String>, AllocError> {
+pub fn words(alloc: Global, line: &str) -> Result<Vec<String>, AllocError> {
     let mut words = Vec::new(alloc);
     for word in line.split_ascii_whitespace() {
         words.push(String::from_str(alloc, word)?)?;
@@ -29,8 +31,24 @@ fn letters(alloc: Global, length: usize) -> Result<Vec<u8>, AllocError> {
 }
 
 // The calls with these numbers are to fail.
-fn failing(alloc: Global, calls: &[u64]) -> Result<List<u64>, AllocError> {
+pub fn failing(alloc: Global, calls: &[u64]) -> Result<List<u64>, AllocError> {
     Ok(List::from_vec(calls.to_vec(alloc)?))
+}
+
+// A station to which nobody comes.
+fn deserted(alloc: Global) -> MemPlan {
+    MemPlan {
+        areas: [
+            Text::new(alloc),
+            Text::new(alloc),
+            Text::new(alloc),
+            Text::new(alloc),
+        ],
+        connections: List::new(alloc),
+        pieces: List::new(alloc),
+        moments: List::new(alloc),
+        faults: List::new(alloc),
+    }
 }
 
 #[test]
@@ -59,8 +77,18 @@ fn the_tree_hash_is_printed(rt: HostRuntime) -> Result<(), Fail> {
         files.add("x", bytes)?;
         for line in ["hash x", "hash"] {
             let mut out = MemSink::new(alloc, List::new(alloc));
+            let mut station = MemStation::new(alloc, deserted(alloc))
+                .ok()
+                .ok_or("memory")?;
             assert_eq!(rt;
-                run(&rt, alloc, &words(alloc, line)?, &mut files, &mut out),
+                run(
+                    &rt,
+                    alloc,
+                    &words(alloc, line)?,
+                    &mut files,
+                    &mut station,
+                    &mut out
+                ),
                 0
             );
             assert_eq!(rt; out.written(), want.as_bytes());
@@ -69,14 +97,16 @@ fn the_tree_hash_is_printed(rt: HostRuntime) -> Result<(), Fail> {
     Ok(())
 }
 
+pub const USAGE: &str = "hash [FILE]\nserve FOLDER KEYS --listen ADDR\n";
+
 #[test]
 fn each_fault_has_its_status_and_line(rt: HostRuntime) -> Result<(), Fail> {
     let alloc = rt.alloc();
     // The words, the calls of the files and of the sink that are to fail, the status and what is printed.
     let rows: [(&str, &[u64], &[u64], u8, &str); 8] = [
-        ("", &[], &[], 2, "hash [FILE]\n"),
-        ("hash x y", &[], &[], 2, "hash [FILE]\n"),
-        ("hush x", &[], &[], 2, "hash [FILE]\n"),
+        ("", &[], &[], 2, USAGE),
+        ("hash x y", &[], &[], 2, USAGE),
+        ("hush x", &[], &[], 2, USAGE),
         ("hash nosuch", &[], &[], 3, "file fault\n"),
         ("hash x", &[0], &[], 3, "file fault\n"),
         ("hash x", &[1], &[], 3, "file fault\n"),
@@ -87,8 +117,18 @@ fn each_fault_has_its_status_and_line(rt: HostRuntime) -> Result<(), Fail> {
         let mut files = MemFiles::new(alloc, Text::new(alloc), failing(alloc, files_fail)?);
         files.add("x", b"abc")?;
         let mut out = MemSink::new(alloc, failing(alloc, sink_fails)?);
+        let mut station = MemStation::new(alloc, deserted(alloc))
+            .ok()
+            .ok_or("memory")?;
         assert_eq!(rt;
-            run(&rt, alloc, &words(alloc, line)?, &mut files, &mut out),
+            run(
+                &rt,
+                alloc,
+                &words(alloc, line)?,
+                &mut files,
+                &mut station,
+                &mut out
+            ),
             status,
             "{line}"
         );
