@@ -63,7 +63,8 @@ ListensAt v address =
 -- no folder was opened, and this address was listened at at most once, and no other
 abbrev pub ListensAtMost : Visit → List ℕ → Type 0
 ListensAtMost v address =
-    ListensAt v address ⊎ ((v.after.addresses ≡ v.before.addresses) × (v.after.folders ≡ v.before.folders))
+    ((v.after.addresses ≡ v.before.addresses) ⊎ (v.after.addresses ≡ v.before.addresses ++ address ∷ []))
+    × (v.after.folders ≡ v.before.folders)
 
 -- so many connections came to this address and were served, from the state of no account on; fewer than the most only where none is left to come
 pub record ServesAt (v : Visit) (address : List ℕ) (count : ℕ) : Type 0 where

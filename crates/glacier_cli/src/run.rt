@@ -1,5 +1,5 @@
 // From the words of the command line to the status.
-ghost use Rattle.std.specs.Prelude.{◌≡◌, ◌⊎◌, ◌≤◌, ℕ, List, IsTrue, false, map, string_bytes, Option, Some, None};
+ghost use Rattle.std.specs.Prelude.{◌≡◌, ◌≢◌, ◌⊎◌, ◌≤◌, ℕ, List, IsTrue, false, map, string_bytes, Option, Some, None};
 ghost use Rattle.glacier_base.specs.Outside.{HasRisen};
 ghost use Rattle.glacier_cli.specs.Endings.{Prints};
 ghost use Rattle.glacier_cli.specs.Forms.{form_of, hash as hash_form, serve as serve_form};
@@ -33,6 +33,9 @@ fn ending_of<R: Threads + Sync, F: Files, S: Station>(
         result }
     ensures content { IsTrue F.tells → (key : Option (List ℕ)) →
         F.content files.new key ≡ F.content files.old key }
+    ensures alone { ((address : List ℕ) →
+        form_of (map string_bytes words.now) ≢ Some (serve_form address)) →
+        station.new ≡ station.old }
     ensures later { F.read_faults files.old ≤ F.read_faults files.new }
     ensures accepts { S.accept_faults station.old ≤ S.accept_faults station.new }
 {
@@ -86,11 +89,11 @@ pub fn run<R: Threads + Sync, F: Files, S: Station, O: Sink>(
         address (O.written out.old) (O.written out.new) }
 
     // Status 2: where the words are none of the forms; then nothing was opened, not standard input
-    // either, and nothing was listened at.
+    // either.
     ensures usage { result ≡ 2 → form_of (map string_bytes words.now) ≡ None }
     ensures no_form { form_of (map string_bytes words.now) ≡ None → (result ≡ 2) ⊎ (result ≡ 7) }
-    ensures nothing_opened { form_of (map string_bytes words.now) ≡ None →
-        (IsTrue F.tells → F.names files.new ≡ F.names files.old) × (station.new ≡ station.old) }
+    ensures nothing_opened { form_of (map string_bytes words.now) ≡ None → IsTrue F.tells →
+        F.names files.new ≡ F.names files.old }
 
     // Statuses 3, 6 and 7: only where a read, a call of the listener, or a write to the sink failed.
     ensures file_fault { result ≡ 3 → HasRisen (F.read_faults files.old) (F.read_faults files.new) }
@@ -108,8 +111,12 @@ pub fn run<R: Threads + Sync, F: Files, S: Station, O: Sink>(
         (HasRisen (O.sink_faults out.old) (O.sink_faults out.new) → ⊥) →
         (result ≡ 0) ⊎ (result ≡ 4) }
 
+    // No content changes, and `serve` alone does anything at the station.
     ensures content { IsTrue F.tells → (key : Option (List ℕ)) →
         F.content files.new key ≡ F.content files.old key }
+    ensures alone { ((address : List ℕ) →
+        form_of (map string_bytes words.now) ≢ Some (serve_form address)) →
+        station.new ≡ station.old }
 {
     ending_of(rt, alloc, words, files, station).print(out)
 }
