@@ -6,14 +6,16 @@
 It starts the program at a free port, makes a vault, and asks for it so many times (20,000 where no number is given): on
 connections that are kept for 1,000 requests, which is the most that one may have, and on a connection for each request.
 It prints requests a second, and the processor time that the server took for a request (user and system, by
-/proc/PID/stat). Then a client connects and says nothing, and the time is taken until a second client has its reply; the
-same for a client that sends one byte a second of a head of some bytes.
+/proc/PID/stat). Then clients come that don't behave, and each time it is seen that the next one is served. Last a client
+connects and says nothing, and the time is taken until a second client has its reply; the same for a client that sends one
+byte a second of a head of some bytes.
 
 Each reply is compared with what the first one was, its date aside.
 """
 
 import os
 import socket
+import struct
 import subprocess
 import sys
 import tempfile
@@ -124,6 +126,48 @@ def behind(port, name, client, want):
         thread.join()
 
 
+def refused(port, want):
+    """A head that is too long, and a MiB behind it: the refusal comes whole, before the connection is reset."""
+    with connected(port) as it:
+        it.sendall(b"GET /" + b"a" * 16384)
+        it.sendall(b"a" * (1 << 20))
+        head, body, _ = reply(it, b"")
+        assert head[0] == b"HTTP/1.1 400 Bad Request" and b"too long" in body, (head, body)
+        it.shutdown(socket.SHUT_WR)
+        assert it.recv(1) == b""
+
+
+def half_closed(port, want):
+    """A request, and then no more: its reply comes."""
+    with connected(port) as it:
+        it.sendall(GET)
+        it.shutdown(socket.SHUT_WR)
+        head, body, _ = reply(it, b"")
+        assert (head, body) == want, (head, body)
+        assert it.recv(1) == b""
+
+
+def cut_off(port, want):
+    """Half of a head, and then the end: no byte comes."""
+    with connected(port) as it:
+        it.sendall(GET[:40])
+        it.shutdown(socket.SHUT_WR)
+        assert it.recv(1) == b""
+
+
+def reset(port, want):
+    """A connection that is reset before its request is answered."""
+    with connected(port) as it:
+        it.setsockopt(socket.SOL_SOCKET, socket.SO_LINGER, struct.pack("ii", 1, 0))
+        it.sendall(GET * 500)
+
+
+def behaves(port, want):
+    for client in (refused, half_closed, cut_off, reset, reset, cut_off):
+        client(port, want)
+        on_one_each(port, 1, want)
+
+
 def silent(connection, stop):
     stop.wait()
 
@@ -155,6 +199,8 @@ def main():
             print("|---|---|---|---|")
             measured(process, "kept for 1,000 requests", on_kept, port, count, want)
             measured(process, "one for each request", on_one_each, port, count, want)
+            behaves(port, want)
+            print("\nEach client behind one that doesn't behave was served.")
             print("\n| Behind | Wait for a reply, s |\n|---|---|")
             behind(port, "a client that says nothing", silent, want)
             behind(port, "a client that sends a byte a second, twelve in all", slow, want)
