@@ -1,8 +1,10 @@
 // What is served, printed and answered for the words of `serve`.
+ghost use Rattle.std.specs.Prelude.{◌≡◌, false};
+
 use crate::run::run;
 use crate::tests::{USAGE, failing, words};
 use glacier_base::{List, MemFiles, MemSink, Memory, Moment, Text};
-use glacier_disk::{MemPlan, MemStation};
+use glacier_disk::{MemPlan, MemStation, Station};
 use std::alloc::Global;
 use std::test::Fail;
 use std::thread::Threads;
@@ -54,6 +56,25 @@ fn plan(alloc: Global, inputs: &[&str], faults: &[u64]) -> Result<MemPlan, Memor
     })
 }
 
+/// The status, and whether this was printed.
+fn printed_status<R: Threads + Sync, S: Station>(
+    rt: &R,
+    alloc: Global,
+    words: &[String],
+    station: &mut S,
+    sink_fails: &[u64],
+    printed: &str,
+) -> Option<(u8, bool)>
+    requires closed { S.is_open station.old ≡ false }
+    requires deaf { S.is_listening station.old ≡ false }
+    requires free { S.is_connected station.old ≡ false }
+{
+    let mut files = MemFiles::new(alloc, Text::new(alloc), List::new(alloc));
+    let mut out = MemSink::new(alloc, failing(alloc, sink_fails).ok()?);
+    let status = run(rt, alloc, words, &mut files, station, &mut out);
+    Some((status, out.written() == printed.as_bytes()))
+}
+
 /// The status, and whether this was printed and this was sent.
 fn outcome<R: Threads + Sync>(
     rt: &R,
@@ -65,14 +86,8 @@ fn outcome<R: Threads + Sync>(
     sent: &str,
 ) -> Option<(u8, bool, bool)> {
     let mut station = MemStation::new(alloc, plan).ok()?;
-    let mut files = MemFiles::new(alloc, Text::new(alloc), List::new(alloc));
-    let mut out = MemSink::new(alloc, failing(alloc, sink_fails).ok()?);
-    let status = run(rt, alloc, words, &mut files, &mut station, &mut out);
-    Some((
-        status,
-        out.written() == printed.as_bytes(),
-        station.sent() == sent.as_bytes(),
-    ))
+    let (status, is_printed) = printed_status(rt, alloc, words, &mut station, sink_fails, printed)?;
+    Some((status, is_printed, station.sent() == sent.as_bytes()))
 }
 
 #[test]
