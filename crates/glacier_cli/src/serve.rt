@@ -1,0 +1,47 @@
+// Serving at an address.
+ghost use Rattle.std.specs.Prelude.{◌≡◌, ◌≤◌, false};
+ghost use Rattle.glacier_cli.specs.Runs.{ServeEnds};
+ghost use Rattle.glacier_cli.specs.Visits.{visit, default_config, most_connections};
+
+use crate::ending::Ending;
+use glacier_base::Region;
+use glacier_disk::Station;
+use glacier_server::{Config, ServeFault, Store, serve};
+use std::alloc::Global;
+
+/// How many connections are served at most.
+const CONNECTIONS: u64 = 1_000_000;
+
+// The region and the delays of a server that is told of no others.
+fn default_config() -> Config
+    ensures { result ≡ default_config }
+{
+    match Region::parse(b"us-east-1") {
+        Some(region) => Config {
+            region,
+            delays: [300, 14_400, 28_800],
+        },
+        None => unreachable!(),
+    }
+}
+
+// Listens at the address, and serves the connections that come, one after another.
+pub(crate) fn serve_at<S: Station>(alloc: Global, address: &str, station: &mut S) -> Ending
+    requires deaf { S.is_listening station.old ≡ false }
+    requires free { S.is_connected station.old ≡ false }
+    ensures ends { ServeEnds
+        (visit S.tells S.connections S.readings S.to_come S.addresses S.folders S.accept_faults
+        station.old station.new)
+        address.now result }
+    ensures later { S.accept_faults station.old ≤ S.accept_faults station.new }
+{
+    if station.listen(address).is_err() {
+        return Ending::ListenerFault;
+    }
+    let store = Store::empty(alloc);
+    match serve(alloc, station, store, &default_config(), CONNECTIONS) {
+        Ok((count, _)) => Ending::Served(count),
+        Err(ServeFault::Memory) => Ending::NoMemory,
+        Err(ServeFault::Accept) => Ending::ListenerFault,
+    }
+}
