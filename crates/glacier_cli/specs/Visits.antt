@@ -1,5 +1,5 @@
 -- What a run did at a station: the address where it listened, and the connections that it served.
-use Rattle.std.specs.Prelude.{◌≡◌, ◌⊎◌, ◌<◌, ◌≤◌, ℕ, Bool, IsTrue, List, [], ◌∷◌, ◌++◌, codes}
+use Rattle.std.specs.Prelude.{◌≡◌, ◌⊎◌, ◌<◌, ℕ, Bool, List, [], ◌∷◌, ◌++◌, codes}
 use Rattle.std.specs.FinMap as map
 use Rattle.glacier_disk.specs.Network.{Connection}
 use Rattle.glacier_server.specs.declared.config.Config.{Config}
