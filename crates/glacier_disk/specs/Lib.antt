@@ -12,3 +12,4 @@ pub mod NetworkLaws
 pub mod Calls
 pub mod Stopped
 pub mod Time
+pub mod Leaves
