@@ -9,35 +9,41 @@ use Rattle.glacier_http.proofs.HeardLemmas.{heard_once}
 use Rattle.glacier_http.proofs.OpeningLemmas.{head_once}
 use Rattle.glacier_server.specs.Machine.{State, interim_of}
 use Rattle.glacier_server.specs.Out.{out, Tells}
-use Rattle.glacier_server.specs.Served.{EndsLast, Stops, EndsInput, IsOut, Served}
+use Rattle.glacier_server.specs.Served.{EndsLast, Stops, EndsInput, IsOut, IsWholeOut, Served}
 
 module _ (config : Config) (taken sent moments coming : List ℕ) (state new : State) where
-  of_last : (end : InputEnd) → EndsLast config taken sent moments state new end → IsOut config taken moments state sent
+  of_last : (end : InputEnd) → EndsLast config taken sent moments state new end → IsWholeOut config taken moments state sent
   of_last end x = record {
-    messages = x.messages;
-    rest = x.rest;
-    end = end;
-    heard = inl x.runs.hears;
-    interim = x.runs.interim;
-    tells = x.runs.tells;
-    text_is = sym (x.runs.all ∙ append-nil sent);
+    is_out = record {
+      messages = x.messages;
+      rest = x.rest;
+      end = end;
+      heard = inl x.runs.hears;
+      interim = x.runs.interim;
+      tells = x.runs.tells;
+      text_is = sym (x.runs.all ∙ append-nil sent);
+    };
+    enough = x.runs.enough;
   }
 
-  of_stop : (messages : List Message) (rest : List ℕ) → Stops config taken sent moments state new messages rest → IsOut config taken moments state sent
+  of_stop : (messages : List Message) (rest : List ℕ) → Stops config taken sent moments state new messages rest → IsWholeOut config taken moments state sent
   of_stop messages rest x = record {
-    messages = messages;
-    rest = rest;
-    end = end_of_rest rest;
-    heard = inr (x.runs.hears, x.read_all.none, refl);
-    interim = x.runs.interim;
-    tells = x.runs.tells;
-    text_is = sym (x.runs.all ∙ append-nil sent);
+    is_out = record {
+      messages = messages;
+      rest = rest;
+      end = end_of_rest rest;
+      heard = inr (x.runs.hears, x.read_all.none, refl);
+      interim = x.runs.interim;
+      tells = x.runs.tells;
+      text_is = sym (x.runs.all ∙ append-nil sent);
+    };
+    enough = x.runs.enough;
   }
 
-  of_input : (end : InputEnd) → EndsInput config taken sent moments coming state new end → IsOut config taken moments state sent
+  of_input : (end : InputEnd) → EndsInput config taken sent moments coming state new end → IsWholeOut config taken moments state sent
   of_input end x = of_stop x.messages x.rest x.stops
 
-  pub all_sent : (end : End) → Served config taken sent moments coming state new end → end ≢ SendFault → IsOut config taken moments state sent
+  pub all_sent : (end : End) → Served config taken sent moments coming state new end → end ≢ SendFault → IsWholeOut config taken moments state sent
   all_sent Closed (inl x) other = of_last closed x
   all_sent Closed (inr x) other = of_input closed x
   all_sent (Cut n) x other = of_input (cut n) x

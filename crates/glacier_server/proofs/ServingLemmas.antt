@@ -83,21 +83,24 @@ module _ {S : Type 0} (connections : S → List Connection) (readings : S → Li
     part,
   )
 
-  pub breaks_then : (a b c : S) (state mid : State) (n : ℕ) (fault : ServeFault) → Serves connections readings to_come config a b state mid n
-      → Breaks connections readings config b c mid fault → Breaks connections readings config a c state fault
-  breaks_then a b c state mid n fault first second = record {
+  pub breaks_then : (a b c : S) (state mid : State) (n k most : ℕ) (fault : ServeFault) → n + k ≤ most
+      → Serves connections readings to_come config a b state mid n
+      → Breaks connections readings config b c mid k fault → Breaks connections readings config a c state most fault
+  breaks_then a b c state mid n k most fault within first second = record {
     came = first.came ++ second.came;
     moments = first.moments ++ second.moments;
+    few = omega (arith, first.number, second.few, within, length-append first.came second.came);
     behind = second.behind ∙ ap (λ (l : List Connection). l ++ second.came) first.behind ∙ append_assoc _ first.came second.came;
     read = second.read ∙ ap (λ (l : List ℕ). l ++ second.moments) first.read ∙ append_assoc _ first.moments second.moments;
     till = breaks_after fault first.came second.came first.moments second.moments state mid first.each second.till;
   }
 
   pub breaks_accept : (old new : S) (state : State) → connections new ≡ connections old → readings new ≡ readings old
-      → Breaks connections readings config old new state Accept
+      → Breaks connections readings config old new state 1 Accept
   breaks_accept old new state same read = record {
     came = [];
     moments = [];
+    few = omega arith;
     behind = same ∙ sym (append-nil _);
     read = read ∙ sym (append-nil _);
     till = (state, (refl, refl));
@@ -151,10 +154,11 @@ module _ {S : Type 0} (connections : S → List Connection) (readings : S → Li
       });
     }
 
-    breaks_by : (state after : State) → Part config taken sent moments state after → Breaks connections readings config old new state Memory
+    breaks_by : (state after : State) → Part config taken sent moments state after → Breaks connections readings config old new state 1 Memory
     breaks_by state after part = record {
       came = c ∷ [];
       moments = moments;
+      few = omega arith;
       behind = behind;
       read = read_all;
       till = (
@@ -184,7 +188,7 @@ module _ {S : Type 0} (connections : S → List Connection) (readings : S → Li
         state after end x.served read_failed send_failed come
 
     pub breaks_one : (fault : ServeFault) → fault ≡ Memory → PartLast connections readings config start done state
-        → Breaks connections readings config old new state fault
+        → Breaks connections readings config old new state 1 fault
     breaks_one fault is x =
-        subst (λ (f : ServeFault). Breaks connections readings config old new state f) (sym is)
+        subst (λ (f : ServeFault). Breaks connections readings config old new state 1 f) (sym is)
         (breaks_by old start done new x.taken x.sent x.moments opens x.moves last.0 last.1 last.2 same read_last state x.after x.part)

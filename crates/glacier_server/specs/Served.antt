@@ -62,6 +62,12 @@ pub record IsOut (config : Config) (taken moments : List ℕ) (state : State) (t
   pub tells : Tells rest (drop (length messages) moments) interim
   pub text_is : text ≡ out config 0 state messages moments ++ interim
 
+-- the same, where each of these messages has its reading
+pub record IsWholeOut (config : Config) (taken moments : List ℕ) (state : State) (text : List ℕ)
+    : Type 0 where
+  pub is_out : IsOut config taken moments state text
+  pub enough : length is_out.messages ≤ length moments
+
 -- what was sent is a first part of the output
 abbrev pub IsPartOfOut : Config → List ℕ → List ℕ → List ℕ → State → Type 0
 IsPartOfOut config taken sent moments state =

@@ -1,5 +1,5 @@
 -- What a server does for the connections that come, one after another.
-use Rattle.std.specs.Prelude.{◌≡◌, ℕ, ◌+◌, ◌<◌, List, [], ◌∷◌, ◌++◌, length}
+use Rattle.std.specs.Prelude.{◌≡◌, ℕ, ◌+◌, ◌<◌, ◌≤◌, List, [], ◌∷◌, ◌++◌, length}
 use Rattle.glacier_disk.specs.Network.{Connection, accepted}
 use Rattle.glacier_server.specs.declared.config.Config.{Config}
 use Rattle.glacier_server.specs.declared.end.End.{End}
@@ -44,11 +44,12 @@ ServedTill config Memory came moments state =
     × (came ≡ first ++ last ∷ []) × (moments ≡ before ++ here)
     × ServedAll config first before state mid × Part config last.taken last.sent here mid new
 
--- some connections came, and then the server stopped
+-- some connections came, at most so many, and then the server stopped
 pub record Breaks {S : Type 0} (connections : S → List Connection) (readings : S → List ℕ)
-    (config : Config) (old new : S) (state : State) (fault : ServeFault) : Type 0 where
+    (config : Config) (old new : S) (state : State) (most : ℕ) (fault : ServeFault) : Type 0 where
   pub came : List Connection
   pub moments : List ℕ
+  pub few : length came ≤ most
   pub behind : connections new ≡ connections old ++ came
   pub read : readings new ≡ readings old ++ moments
   pub till : ServedTill config fault came moments state

@@ -4,16 +4,17 @@ ghost use Rattle.glacier_http.specs.Messages.{Message};
 ghost use Rattle.glacier_machine.specs.Runs.{after_all, events, run as run_of_machine};
 ghost use Rattle.glacier_server.specs.Machine.{State, terms_of};
 ghost use Rattle.glacier_server.specs.Out.{run, out, texts, closings};
-ghost use Rattle.glacier_server.specs.Served.{Served, IsOut};
+ghost use Rattle.glacier_server.specs.Served.{Served, IsOut, IsWholeOut};
 ghost use Rattle.glacier_server.specs.declared.config.Config.{Config as Settings};
 ghost use Rattle.glacier_server.specs.declared.end.End.{End as HowEnded};
 ghost use Rattle.glacier_server.specs.declared.end.End.TheVariants as end;
 
-/// On a connection that ends with no failed send, the output for the bytes taken was sent.
+/// On a connection that ends with no failed send, the output for the bytes taken was sent, with the
+/// reply to each message that is heard in them.
 pub fn all_was_sent()
     ensures { (config : Settings) (taken sent moments coming : List ℕ) (state new : State)
         (last : HowEnded) → Served config taken sent moments coming state new last →
-        last ≢ end.SendFault → IsOut config taken moments state sent }
+        last ≢ end.SendFault → IsWholeOut config taken moments state sent }
 {}
 
 /// The output for an input at some readings is one text, so it doesn't depend on how the bytes

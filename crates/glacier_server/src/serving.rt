@@ -26,7 +26,7 @@ fn serve_accepted<S: Station>(
     ensures broken { IsTrue S.tells → (old : S) →
         JustAccepted S.connections S.readings old station.old →
         IfErr result (λ fault. Breaks S.connections S.readings config.now old station.new store
-        fault) }
+        1 fault) }
     ensures fault { IfErr result (λ fault. fault ≡ ServeFault.Memory) }
     ensures closed { S.is_connected station.new ≡ false }
     ensures listening { S.is_listening station.new ≡ S.is_listening station.old }
@@ -61,7 +61,7 @@ fn serve_next<S: Station>(
         station.new store r.1 (if r.0 then 1 else 0)) }
     ensures broken { IsTrue S.tells →
         IfErr result (λ fault. Breaks S.connections S.readings config.now station.old station.new
-        store fault) }
+        store 1 fault) }
     ensures none { IsTrue S.tells → IfOk result (λ r. r.0 ≡ false → S.to_come station.new ≡ 0) }
     ensures accept { IfErr result (λ fault. fault ≡ ServeFault.Accept →
         HasRisen (S.accept_faults station.old) (S.accept_faults station.new)) }
@@ -98,7 +98,7 @@ pub fn serve<S: Station>(
         station.new store r.1 r.0) }
     ensures broken { IsTrue S.tells →
         IfErr result (λ fault. Breaks S.connections S.readings config.now station.old station.new
-        store fault) }
+        store connections fault) }
     ensures most { IfOk result (λ r. r.0 ≤ connections) }
     ensures fewer { IsTrue S.tells →
         IfOk result (λ r. r.0 < connections → S.to_come station.new ≡ 0) }

@@ -43,4 +43,4 @@ returns-in-Ok-false-default-clause-served g c t =
 pub returns-in-Err-clause-broken : goal.returns-in-Err-clause-broken
 returns-in-Err-clause-broken g c t =
     breaks_then g.S.Station.connections g.S.Station.readings g.S.Station.to_come c.args.config.now c.args.station.now c.connections.station c.serve_next.new.station
-    c.args.store c.connections.store c.connections.count _ (c.connections.invariant.served t) (c.in-Err.ensures.broken t)
+    c.args.store c.connections.store c.connections.count 1 c.args.connections _ (omega (arith, c.connections-test.true)) (c.connections.invariant.served t) (c.in-Err.ensures.broken t)
