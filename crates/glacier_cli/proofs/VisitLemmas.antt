@@ -1,5 +1,5 @@
 -- What a server does at a station, once it listens at an address.
-use Rattle.std.proofs.Common.{◌≡◌, ◌+◌, ◌<◌, ℕ, List, [], ◌++◌, sym, ap, ◌∙◌, refl, subst}
+use Rattle.std.proofs.Common.{◌≡◌, ◌+◌, ◌<◌, ℕ, List, [], ◌++◌, sym, ap, ◌∙◌, refl, subst, arith}
 use Rattle.std.proofs.lemmas.List.{append-nil}
 use Rattle.std.specs.FinMap as map
 use Rattle.glacier_disk.specs.Network.{Connection}
@@ -15,6 +15,7 @@ pub none_came : (v : Visit) → v.after.connections ≡ v.before.connections →
 none_came v same_connections same_readings = record {
   came = [];
   moments = [];
+  few = omega arith;
   behind = same_connections ∙ sym (append-nil v.before.connections);
   read = same_readings ∙ sym (append-nil v.before.readings);
   till = (map.empty, (refl, refl));
@@ -26,10 +27,11 @@ module _ (v : Visit) (config : Config) (store : State) (is_default : config ≡ 
   pub breaks_at : {S : Type 0} {connections : S → List Connection} {readings : S → List ℕ} (mid new : S) (fault : ServeFault)
       → connections mid ≡ v.before.connections → readings mid ≡ v.before.readings
       → v.after.connections ≡ connections new → v.after.readings ≡ readings new
-      → Breaks connections readings config mid new store fault → BreaksAt v fault
+      → Breaks connections readings config mid new store most_connections fault → BreaksAt v fault
   breaks_at mid new fault came read now now_read breaks = record {
     came = breaks.came;
     moments = breaks.moments;
+    few = breaks.few;
     behind = now ∙ breaks.behind ∙ ap (λ (l : List Connection). l ++ breaks.came) came;
     read = now_read ∙ breaks.read ∙ ap (λ (l : List ℕ). l ++ breaks.moments) read;
     till = subst (λ (terms : Config). ServedTill terms fault breaks.came breaks.moments map.empty) is_default

@@ -74,7 +74,7 @@ pub record ServesAt (v : Visit) (address : List ℕ) (count : ℕ) : Type 0 wher
       default_config v.before v.after map.empty state count
   pub fewer : count < most_connections → v.after.to_come ≡ 0
 
--- those that came before the fault were served, from the state of no account on
+-- those that came before the fault, no more than the most, were served, from the state of no account on
 abbrev pub BreaksAt : Visit → ServeFault → Type 0
 BreaksAt v fault = Breaks (λ (t : Told). t.connections) (λ (t : Told). t.readings)
-    default_config v.before v.after map.empty fault
+    default_config v.before v.after map.empty most_connections fault
