@@ -3,7 +3,7 @@ use Rattle.std.proofs.Common.{◌≡◌, ℕ, ◌+◌, ◌-◌, ◌^◌, ◌≤�
 use Rattle.std.specs.Prelude.{min}
 use Rattle.glacier_base.specs.Outside.{HasRisen, one_more}
 use Rattle.glacier_disk.specs.Network.{Connection, OnLast, Takes, TakesNone, Sends, SendsPart}
-use Rattle.glacier_server.specs.Moves.{Moves, ReceiveFailed, SendFailed, NoneComing, NotFallen, current, others}
+use Rattle.glacier_server.specs.Moves.{Moves, ReceiveFailed, SendFailed, NoneFailed, NoneComing, NotFallen, current, others}
 
 pub current-snoc : (before : List Connection) (c : Connection) → current (before ++ c ∷ []) ≡ c
 current-snoc [] c = refl
@@ -125,3 +125,28 @@ pub at_end : {S : Type 0} (connections : S → List Connection) (old new : S) �
 at_end connections old new on =
     let e = ends (λ from to. to.coming ≡ []) (connections old) (connections new) on in
     ap (λ (c : Connection). c.coming) e.is ∙ e.steps
+
+-- no call on the last connection failed
+module _ {S : Type 0} (connections : S → List Connection) (old new : S) where
+  calm_by : (step : Connection → Connection → Type 0) (e : Ends step (connections old) (connections new))
+      → e.to.receives_failed ≡ e.from.receives_failed → e.to.sends_failed ≡ e.from.sends_failed → NoneFailed connections old new
+  calm_by step e receives sends = (
+    ap (λ (c : Connection). c.receives_failed) e.is ∙ receives ∙ ap (λ (c : Connection). c.receives_failed) (sym e.was),
+    ap (λ (c : Connection). c.sends_failed) e.is ∙ sends ∙ ap (λ (c : Connection). c.sends_failed) (sym e.was),
+  )
+
+  pub takes_calm : (bytes : List ℕ) → OnLast (Takes bytes) (connections old) (connections new) → NoneFailed connections old new
+  takes_calm bytes on =
+      let e = ends (Takes bytes) (connections old) (connections new) on in
+      calm_by (Takes bytes) e e.steps.receives_failed e.steps.sends_failed
+
+  pub sends_calm : (bytes : List ℕ) → OnLast (Sends bytes) (connections old) (connections new) → NoneFailed connections old new
+  sends_calm bytes on =
+      let e = ends (Sends bytes) (connections old) (connections new) on in
+      calm_by (Sends bytes) e e.steps.receives_failed e.steps.sends_failed
+
+  pub same_calm : connections new ≡ connections old → NoneFailed connections old new
+  same_calm same = (
+    ap (λ (cs : List Connection). (current cs).receives_failed) same,
+    ap (λ (cs : List Connection). (current cs).sends_failed) same,
+  )

@@ -56,6 +56,12 @@ abbrev pub SendFailed : {S : Type 0} → (S → List Connection) → S → S →
 SendFailed connections old new =
     HasRisen (current (connections old)).sends_failed (current (connections new)).sends_failed
 
+-- no call on it has failed
+abbrev pub NoneFailed : {S : Type 0} → (S → List Connection) → S → S → Type 0
+NoneFailed connections old new =
+    ((current (connections new)).receives_failed ≡ (current (connections old)).receives_failed)
+    × ((current (connections new)).sends_failed ≡ (current (connections old)).sends_failed)
+
 -- no byte of it is left to come
 abbrev pub NoneComing : {S : Type 0} → (S → List Connection) → S → Type 0
 NoneComing connections now = (current (connections now)).coming ≡ []

@@ -7,7 +7,7 @@ ghost use Rattle.glacier_http.specs.Step.{IsStep};
 ghost use Rattle.glacier_http.specs.declared.head_spans.HeadStep.TheVariants as step;
 ghost use Rattle.glacier_server.specs.Finding.{AtFront};
 ghost use Rattle.glacier_server.specs.Machine.{reply as reply_to, after};
-ghost use Rattle.glacier_server.specs.Moves.{Moves, SameBeside, ReceiveFailed, SendFailed};
+ghost use Rattle.glacier_server.specs.Moves.{Moves, SameBeside, ReceiveFailed, SendFailed, NoneFailed};
 ghost use Rattle.glacier_server.specs.Turn.{Turns, BreaksOff, Refuses, RefusesPart, end_for_some, end_of_good};
 
 use crate::body::take_rest;
@@ -102,6 +102,9 @@ pub fn refuse<S: Station>(
     ensures send_here { IsTrue S.tells →
         IfOk result (λ end. end ≡ End.SendFault →
         SendFailed S.connections station.old station.new) }
+    ensures calm { IsTrue S.tells →
+        IfOk result (λ end. end ≢ End.SendFault →
+        NoneFailed S.connections station.old station.new) }
     ensures receives { S.receive_faults station.new ≡ S.receive_faults station.old }
     ensures sends { S.send_faults station.old ≤ S.send_faults station.new }
     ensures beside { SameBeside S.is_listening S.addresses S.folders S.to_come S.accept_faults
@@ -180,6 +183,8 @@ fn send_reply<S: Station>(
         HasRisen (S.send_faults station.old) (S.send_faults station.new) }
     ensures send_here { IsTrue S.tells → result ≡ Ok false →
         SendFailed S.connections station.old station.new }
+    ensures calm { IsTrue S.tells → result ≡ Ok true →
+        NoneFailed S.connections station.old station.new }
     ensures receives { S.receive_faults station.new ≡ S.receive_faults station.old }
     ensures sends { S.send_faults station.old ≤ S.send_faults station.new }
     ensures beside { SameBeside S.is_listening S.addresses S.folders S.to_come S.accept_faults
@@ -227,6 +232,9 @@ pub fn answer<S: Station>(
     ensures send_here { IsTrue S.tells →
         IfOk result (λ end. end ≡ Some End.SendFault →
         SendFailed S.connections station.old station.new) }
+    ensures calm { IsTrue S.tells →
+        IfOk result (λ end. end ≢ Some End.ReadFault → end ≢ Some End.SendFault →
+        NoneFailed S.connections station.old station.new) }
     ensures receives { S.receive_faults station.old ≤ S.receive_faults station.new }
     ensures sends { S.send_faults station.old ≤ S.send_faults station.new }
     ensures beside { SameBeside S.is_listening S.addresses S.folders S.to_come S.accept_faults

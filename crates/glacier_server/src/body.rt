@@ -1,7 +1,7 @@
 // Taking the rest of a body.
-ghost use Rattle.std.specs.Prelude.{◌≡◌, ◌<◌, ◌≤◌, [], IsTrue, length, true, IfOk, IfErr, OnErr};
+ghost use Rattle.std.specs.Prelude.{◌≡◌, ◌<◌, ◌≤◌, [], IsTrue, length, true, IfOk, IfErr, OnOk, OnErr};
 ghost use Rattle.glacier_base.specs.Outside.{HasCause};
-ghost use Rattle.glacier_server.specs.Moves.{Moves, TakesOf, SameBeside, ReceiveFailed, NoneComing};
+ghost use Rattle.glacier_server.specs.Moves.{Moves, TakesOf, SameBeside, ReceiveFailed, NoneFailed, NoneComing};
 
 use crate::moves::receive;
 use glacier_base::Failed;
@@ -22,6 +22,8 @@ fn take_piece<S: Station>(station: &mut S, piece: &mut [u8], left: u64) -> Resul
         OnErr result (Moves S.connections S.readings station.old station.new [] [] []) }
     ensures here { IsTrue S.tells →
         OnErr result (ReceiveFailed S.connections station.old station.new) }
+    ensures calm { IsTrue S.tells →
+        OnOk result (NoneFailed S.connections station.old station.new) }
     ensures connected { S.is_connected station.new ≡ true }
     ensures cause { HasCause (S.receive_faults station.old) (S.receive_faults station.new) result }
     ensures sends { S.send_faults station.new ≡ S.send_faults station.old }
@@ -60,6 +62,8 @@ pub fn take_rest<S: Station>(
     ensures some { IfErr result (λ e. 0 < e.1) }
     ensures here { IsTrue S.tells →
         OnErr result (ReceiveFailed S.connections station.old station.new) }
+    ensures calm { IsTrue S.tells →
+        OnOk result (NoneFailed S.connections station.old station.new) }
     ensures connected { S.is_connected station.new ≡ true }
     ensures cause { HasCause (S.receive_faults station.old) (S.receive_faults station.new) result }
     ensures sends { S.send_faults station.new ≡ S.send_faults station.old }

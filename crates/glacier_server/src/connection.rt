@@ -2,7 +2,7 @@
 ghost use Rattle.std.specs.Prelude.{◌≡◌, ◌≢◌, ◌+◌, ◌<◌, ◌≤◌, IsTrue, Option, Some, None, true, IfOk, IfErr, OnErr};
 ghost use Rattle.glacier_base.specs.Outside.{HasRisen};
 ghost use Rattle.glacier_http.specs.Messages.{end_of_rest};
-ghost use Rattle.glacier_server.specs.Moves.{SameBeside, ReceiveFailed, SendFailed};
+ghost use Rattle.glacier_server.specs.Moves.{SameBeside, ReceiveFailed, SendFailed, NoneFailed};
 ghost use Rattle.glacier_server.specs.Served.{ServedLast, PartLast};
 ghost use Rattle.glacier_server.specs.Turn.{Turns, BreaksOff, end_for};
 
@@ -60,6 +60,9 @@ fn one_message<S: Station>(
     ensures send_here { IsTrue S.tells →
         IfOk result (λ end. end ≡ Some End.SendFault →
         SendFailed S.connections station.old station.new) }
+    ensures calm { IsTrue S.tells →
+        IfOk result (λ end. end ≢ Some End.ReadFault → end ≢ Some End.SendFault →
+        NoneFailed S.connections station.old station.new) }
     ensures receives { S.receive_faults station.old ≤ S.receive_faults station.new }
     ensures sends { S.send_faults station.old ≤ S.send_faults station.new }
     ensures beside { SameBeside S.is_listening S.addresses S.folders S.to_come S.accept_faults
@@ -105,6 +108,9 @@ pub fn serve_connection<S: Station>(
         HasRisen (S.send_faults station.old) (S.send_faults station.new)) }
     ensures send_here { IsTrue S.tells →
         IfOk result (λ r. r.0 ≡ End.SendFault → SendFailed S.connections station.old station.new) }
+    ensures calm { IsTrue S.tells →
+        IfOk result (λ r. r.0 ≢ End.ReadFault → r.0 ≢ End.SendFault →
+        NoneFailed S.connections station.old station.new) }
     ensures receives { S.receive_faults station.old ≤ S.receive_faults station.new }
     ensures sends { S.send_faults station.old ≤ S.send_faults station.new }
     ensures beside { SameBeside S.is_listening S.addresses S.folders S.to_come S.accept_faults

@@ -1,10 +1,10 @@
 // Finding the next head.
-ghost use Rattle.std.specs.Prelude.{◌≡◌, IsTrue, true, IfOk, OnErr};
+ghost use Rattle.std.specs.Prelude.{◌≡◌, IsTrue, true, IfOk, OnOk, OnErr};
 ghost use Rattle.glacier_base.specs.Outside.{HasCause};
 ghost use Rattle.glacier_http.specs.Step.{IsStep};
 ghost use Rattle.glacier_http.specs.declared.head_spans.HeadStep.TheVariants as step;
 ghost use Rattle.glacier_server.specs.Finding.{IsFound};
-ghost use Rattle.glacier_server.specs.Moves.{TakesBehind, SameBeside, ReceiveFailed, NoneComing};
+ghost use Rattle.glacier_server.specs.Moves.{TakesBehind, SameBeside, ReceiveFailed, NoneFailed, NoneComing};
 
 use crate::unread::Unread;
 use glacier_base::Failed;
@@ -33,6 +33,8 @@ pub fn find_head<S: Station>(
         TakesBehind S.connections S.readings station.old station.new unread.old unread.new }
     ensures here { IsTrue S.tells →
         OnErr result (ReceiveFailed S.connections station.old station.new) }
+    ensures calm { IsTrue S.tells →
+        OnOk result (NoneFailed S.connections station.old station.new) }
     ensures end { IsTrue S.tells → result ≡ Ok Found.Ended → NoneComing S.connections station.new }
     ensures connected { S.is_connected station.new ≡ true }
     ensures cause { HasCause (S.receive_faults station.old) (S.receive_faults station.new) result }

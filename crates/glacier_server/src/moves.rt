@@ -1,7 +1,7 @@
 // The calls of a station as moves of its last connection.
 ghost use Rattle.std.specs.Prelude.{◌≡◌, ◌<◌, ◌≤◌, [], ◌∷◌, ℕ, IsTrue, length, take, true, slice_index, IfOk, OnOk, OnErr};
 ghost use Rattle.glacier_base.specs.Outside.{HasCause};
-ghost use Rattle.glacier_server.specs.Moves.{Moves, SameBeside, ReceiveFailed, SendFailed, NoneComing};
+ghost use Rattle.glacier_server.specs.Moves.{Moves, SameBeside, ReceiveFailed, SendFailed, NoneFailed, NoneComing};
 
 use glacier_base::{Failed, Moment};
 use glacier_disk::Station;
@@ -18,6 +18,8 @@ pub fn receive<S: Station>(station: &mut S, into: &mut [u8]) -> Result<usize, Fa
         OnErr result (Moves S.connections S.readings station.old station.new [] [] []) }
     ensures here { IsTrue S.tells →
         OnErr result (ReceiveFailed S.connections station.old station.new) }
+    ensures calm { IsTrue S.tells →
+        OnOk result (NoneFailed S.connections station.old station.new) }
     ensures end { IsTrue S.tells → result ≡ Ok 0 → NoneComing S.connections station.new }
     ensures fits { (k : ℕ) → slice_index into.new k < 256 }
     ensures connected { S.is_connected station.new ≡ true }
@@ -42,6 +44,8 @@ pub fn send<S: Station>(station: &mut S, bytes: &[u8]) -> Result<(), Failed>
         (take n bytes.now) []) }
     ensures here { IsTrue S.tells →
         OnErr result (SendFailed S.connections station.old station.new) }
+    ensures calm { IsTrue S.tells →
+        OnOk result (NoneFailed S.connections station.old station.new) }
     ensures connected { S.is_connected station.new ≡ true }
     ensures cause { HasCause (S.send_faults station.old) (S.send_faults station.new) result }
     ensures receives { S.receive_faults station.new ≡ S.receive_faults station.old }
@@ -59,6 +63,7 @@ pub fn now<S: Station>(station: &mut S) -> Moment
     requires { S.is_connected station.old ≡ true }
     ensures reads { IsTrue S.tells →
         Moves S.connections S.readings station.old station.new [] [] (result ∷ []) }
+    ensures calm { IsTrue S.tells → NoneFailed S.connections station.old station.new }
     ensures connected { S.is_connected station.new ≡ true }
     ensures receives { S.receive_faults station.new ≡ S.receive_faults station.old }
     ensures sends { S.send_faults station.new ≡ S.send_faults station.old }

@@ -1,7 +1,7 @@
 // The bytes that were taken and not yet used.
-ghost use Rattle.std.specs.Prelude.{◌≡◌, ◌<◌, ◌≤◌, ◌-◌, [], ℕ, List, IsTrue, length, take, drop, true, false, IfOk, OnErr};
+ghost use Rattle.std.specs.Prelude.{◌≡◌, ◌<◌, ◌≤◌, ◌-◌, [], ℕ, List, IsTrue, length, take, drop, true, false, IfOk, OnOk, OnErr};
 ghost use Rattle.glacier_base.specs.Outside.{HasCause};
-ghost use Rattle.glacier_server.specs.Moves.{Moves, TakesBehind, SameBeside, ReceiveFailed, NoneComing};
+ghost use Rattle.glacier_server.specs.Moves.{Moves, TakesBehind, SameBeside, ReceiveFailed, NoneFailed, NoneComing};
 
 use crate::moves::receive;
 use glacier_base::{Failed, Memory};
@@ -51,6 +51,8 @@ fn receive_at<S: Station>(station: &mut S, buffer: &mut [u8], end: usize) -> Res
         OnErr result (Moves S.connections S.readings station.old station.new [] [] []) }
     ensures here { IsTrue S.tells →
         OnErr result (ReceiveFailed S.connections station.old station.new) }
+    ensures calm { IsTrue S.tells →
+        OnOk result (NoneFailed S.connections station.old station.new) }
     ensures end { IsTrue S.tells → result ≡ Ok 0 → NoneComing S.connections station.new }
     ensures connected { S.is_connected station.new ≡ true }
     ensures cause { HasCause (S.receive_faults station.old) (S.receive_faults station.new) result }
@@ -81,6 +83,8 @@ fn refill<S: Station>(
         OnErr result (Moves S.connections S.readings station.old station.new [] [] []) }
     ensures here { IsTrue S.tells →
         OnErr result (ReceiveFailed S.connections station.old station.new) }
+    ensures calm { IsTrue S.tells →
+        OnOk result (NoneFailed S.connections station.old station.new) }
     ensures end { IsTrue S.tells → result ≡ Ok 0 → NoneComing S.connections station.new }
     ensures connected { S.is_connected station.new ≡ true }
     ensures cause { HasCause (S.receive_faults station.old) (S.receive_faults station.new) result }
@@ -143,6 +147,8 @@ impl Unread {
             OnErr result (Moves S.connections S.readings station.old station.new [] [] []) }
         ensures here { IsTrue S.tells →
             OnErr result (ReceiveFailed S.connections station.old station.new) }
+        ensures calm { IsTrue S.tells →
+            OnOk result (NoneFailed S.connections station.old station.new) }
         ensures connected { S.is_connected station.new ≡ true }
         ensures cause { HasCause (S.receive_faults station.old) (S.receive_faults station.new)
             result }

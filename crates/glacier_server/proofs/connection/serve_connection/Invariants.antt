@@ -1,5 +1,5 @@
 use Rattle.std.proofs.Common.{◌≡◌, ◌≤◌, ◌<◌, ◌-◌, IsTrue, true}
-use Rattle.glacier_server.specs.Moves.{SameBeside}
+use Rattle.glacier_server.specs.Moves.{NoneFailed, SameBeside}
 use Rattle.glacier_server.proofs.ConnectionLemmas.{SoFarLast}
 use Rattle.glacier_server.proofs.connection.serve_connection.Given as goal
 
@@ -8,6 +8,7 @@ invariant-messages g l = record {
   below : l.count < 1000;
   so_far : IsTrue g.S.Disk.tells →
       SoFarLast g.S.Station.connections g.S.Station.readings l.fn.config l.count l.fn.station l.station l.desk.unread l.initial.store l.store;
+  calm : IsTrue g.S.Disk.tells → NoneFailed g.S.Station.connections l.fn.station l.station;
   connected : g.S.Station.is_connected l.station ≡ true;
   receives : g.S.Station.receive_faults l.fn.station ≤ g.S.Station.receive_faults l.station;
   sends : g.S.Station.send_faults l.fn.station ≤ g.S.Station.send_faults l.station;
