@@ -1,6 +1,6 @@
 -- Connections that were served, one after another.
 use Rattle.std.proofs.Common.{◌≡◌, ℕ, ◌+◌, ◌-◌, ◌^◌, ◌<◌, ◌≤◌, List, [], ◌∷◌, ◌++◌, refl, sym, ap, subst, ◌∙◌, arith, lit<, length-append, append-nil, append_assoc}
-use Rattle.std.specs.Prelude.{min}
+use Rattle.std.specs.Prelude.{◌≢◌, min}
 use Rattle.glacier_base.specs.Outside.{HasRisen}
 use Rattle.glacier_disk.specs.Network.{Connection, accepted}
 use Rattle.glacier_server.specs.declared.config.Config.{Config}
@@ -9,7 +9,7 @@ use Rattle.glacier_server.specs.declared.end.End.TheVariants.{ReadFault, SendFau
 use Rattle.glacier_server.specs.declared.end.ServeFault.{ServeFault}
 use Rattle.glacier_server.specs.declared.end.ServeFault.TheVariants.{Memory, Accept}
 use Rattle.glacier_server.specs.Machine.{State}
-use Rattle.glacier_server.specs.Moves.{Moves, ReceiveFailed, SendFailed, current, others}
+use Rattle.glacier_server.specs.Moves.{Moves, ReceiveFailed, SendFailed, NoneFailed, current, others}
 use Rattle.glacier_server.specs.Served.{Served, Part, ServedLast, PartLast}
 use Rattle.glacier_server.specs.Serving.{ServedOne, ServedAll, Serves, ServedTill, Breaks, JustAccepted}
 use Rattle.glacier_server.proofs.StepLemmas.{current-snoc, others-snoc}
@@ -136,9 +136,10 @@ module _ {S : Type 0} (connections : S → List Connection) (readings : S → Li
 
     serves_by : (state after : State) (end : End) → Served config taken sent moments (current (connections done)).coming state after end
         → (end ≡ ReadFault → ReceiveFailed connections start done) → (end ≡ SendFault → SendFailed connections start done)
+        → (end ≢ ReadFault → end ≢ SendFault → NoneFailed connections start done)
         → to_come old ≡ 1 + to_come new → Serves connections readings to_come config old new state after 1
     unfolding c
-    serves_by state after end served read_failed send_failed come = record {
+    serves_by state after end served read_failed send_failed calm come = record {
       came = c ∷ [];
       moments = moments;
       behind = behind;
@@ -151,6 +152,9 @@ module _ {S : Type 0} (connections : S → List Connection) (readings : S → Li
             (subst (λ (l : List ℕ). Served config taken l moments c.coming state after end) (sym sent_now) served);
         read = λ is. some_risen _ _ (ap (λ (d : Connection). d.receives_failed) fresh) (read_failed is);
         send = λ is. some_risen _ _ (ap (λ (d : Connection). d.sends_failed) fresh) (send_failed is);
+        calm = λ read_all sent_all.
+            let none = calm read_all sent_all in
+            (none.0 ∙ ap (λ (d : Connection). d.receives_failed) fresh, none.1 ∙ ap (λ (d : Connection). d.sends_failed) fresh);
       });
     }
 
@@ -182,10 +186,11 @@ module _ {S : Type 0} (connections : S → List Connection) (readings : S → Li
       (same : connections new ≡ connections done) (read_last : readings new ≡ readings done) where
     pub serves_one : (after : State) (end : End) → ServedLast connections readings config start done state after end
         → (end ≡ ReadFault → ReceiveFailed connections start done) → (end ≡ SendFault → SendFailed connections start done)
+        → (end ≢ ReadFault → end ≢ SendFault → NoneFailed connections start done)
         → to_come old ≡ 1 + to_come new → Serves connections readings to_come config old new state after 1
-    serves_one after end x read_failed send_failed come =
+    serves_one after end x read_failed send_failed calm come =
         serves_by old start done new x.taken x.sent x.moments opens x.moves last.0 last.1 last.2 same read_last
-        state after end x.served read_failed send_failed come
+        state after end x.served read_failed send_failed calm come
 
     pub breaks_one : (fault : ServeFault) → fault ≡ Memory → PartLast connections readings config start done state
         → Breaks connections readings config old new state 1 fault

@@ -1,5 +1,5 @@
 -- What a server does for the connections that come, one after another.
-use Rattle.std.specs.Prelude.{◌≡◌, ℕ, ◌+◌, ◌<◌, ◌≤◌, List, [], ◌∷◌, ◌++◌, length}
+use Rattle.std.specs.Prelude.{◌≡◌, ◌≢◌, ℕ, ◌+◌, ◌<◌, ◌≤◌, List, [], ◌∷◌, ◌++◌, length}
 use Rattle.glacier_disk.specs.Network.{Connection, accepted}
 use Rattle.glacier_server.specs.declared.config.Config.{Config}
 use Rattle.glacier_server.specs.declared.end.End.{End}
@@ -9,13 +9,14 @@ use Rattle.glacier_server.specs.declared.end.ServeFault.TheVariants.{Memory, Acc
 use Rattle.glacier_server.specs.Machine.{State}
 use Rattle.glacier_server.specs.Served.{Served, Part}
 
--- the connection was served to this end, and a fault is its end only where a call on it failed
+-- the connection was served to this end; a fault is its end where a call on it failed, and only there
 pub record ServedOne (config : Config) (c : Connection) (moments : List ℕ) (state new : State)
     : Type 0 where
   pub end : End
   pub served : Served config c.taken c.sent moments c.coming state new end
   pub read : end ≡ ReadFault → 0 < c.receives_failed
   pub send : end ≡ SendFault → 0 < c.sends_failed
+  pub calm : end ≢ ReadFault → end ≢ SendFault → (c.receives_failed ≡ 0) × (c.sends_failed ≡ 0)
 
 -- each was served in order, at readings of its own, from the state that the one before it left
 abbrev pub ServedAll : Config → List Connection → List ℕ → State → State → Type 0
