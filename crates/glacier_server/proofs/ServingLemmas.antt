@@ -139,7 +139,7 @@ module _ {S : Type 0} (connections : S → List Connection) (readings : S → Li
         → (end ≢ ReadFault → end ≢ SendFault → NoneFailed connections start done)
         → to_come old ≡ 1 + to_come new → Serves connections readings to_come config old new state after 1
     unfolding c
-    serves_by state after end served read_failed send_failed calm come = record {
+    serves_by state after end served read_failed send_failed none_failed come = record {
       came = c ∷ [];
       moments = moments;
       behind = behind;
@@ -152,8 +152,8 @@ module _ {S : Type 0} (connections : S → List Connection) (readings : S → Li
             (subst (λ (l : List ℕ). Served config taken l moments c.coming state after end) (sym sent_now) served);
         read = λ is. some_risen _ _ (ap (λ (d : Connection). d.receives_failed) fresh) (read_failed is);
         send = λ is. some_risen _ _ (ap (λ (d : Connection). d.sends_failed) fresh) (send_failed is);
-        calm = λ read_all sent_all.
-            let none = calm read_all sent_all in
+        none_failed = λ read_all sent_all.
+            let none = none_failed read_all sent_all in
             (none.0 ∙ ap (λ (d : Connection). d.receives_failed) fresh, none.1 ∙ ap (λ (d : Connection). d.sends_failed) fresh);
       });
     }
@@ -188,9 +188,9 @@ module _ {S : Type 0} (connections : S → List Connection) (readings : S → Li
         → (end ≡ ReadFault → ReceiveFailed connections start done) → (end ≡ SendFault → SendFailed connections start done)
         → (end ≢ ReadFault → end ≢ SendFault → NoneFailed connections start done)
         → to_come old ≡ 1 + to_come new → Serves connections readings to_come config old new state after 1
-    serves_one after end x read_failed send_failed calm come =
+    serves_one after end x read_failed send_failed none_failed come =
         serves_by old start done new x.taken x.sent x.moments opens x.moves last.0 last.1 last.2 same read_last
-        state after end x.served read_failed send_failed calm come
+        state after end x.served read_failed send_failed none_failed come
 
     pub breaks_one : (fault : ServeFault) → fault ≡ Memory → PartLast connections readings config start done state
         → Breaks connections readings config old new state 1 fault

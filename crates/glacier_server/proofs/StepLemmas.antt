@@ -128,25 +128,25 @@ at_end connections old new on =
 
 -- no call on the last connection failed
 module _ {S : Type 0} (connections : S → List Connection) (old new : S) where
-  calm_by : (step : Connection → Connection → Type 0) (e : Ends step (connections old) (connections new))
+  none_failed_by : (step : Connection → Connection → Type 0) (e : Ends step (connections old) (connections new))
       → e.to.receives_failed ≡ e.from.receives_failed → e.to.sends_failed ≡ e.from.sends_failed → NoneFailed connections old new
-  calm_by step e receives sends = (
+  none_failed_by step e receives sends = (
     ap (λ (c : Connection). c.receives_failed) e.is ∙ receives ∙ ap (λ (c : Connection). c.receives_failed) (sym e.was),
     ap (λ (c : Connection). c.sends_failed) e.is ∙ sends ∙ ap (λ (c : Connection). c.sends_failed) (sym e.was),
   )
 
-  pub takes_calm : (bytes : List ℕ) → OnLast (Takes bytes) (connections old) (connections new) → NoneFailed connections old new
-  takes_calm bytes on =
+  pub takes_none_failed : (bytes : List ℕ) → OnLast (Takes bytes) (connections old) (connections new) → NoneFailed connections old new
+  takes_none_failed bytes on =
       let e = ends (Takes bytes) (connections old) (connections new) on in
-      calm_by (Takes bytes) e e.steps.receives_failed e.steps.sends_failed
+      none_failed_by (Takes bytes) e e.steps.receives_failed e.steps.sends_failed
 
-  pub sends_calm : (bytes : List ℕ) → OnLast (Sends bytes) (connections old) (connections new) → NoneFailed connections old new
-  sends_calm bytes on =
+  pub sends_none_failed : (bytes : List ℕ) → OnLast (Sends bytes) (connections old) (connections new) → NoneFailed connections old new
+  sends_none_failed bytes on =
       let e = ends (Sends bytes) (connections old) (connections new) on in
-      calm_by (Sends bytes) e e.steps.receives_failed e.steps.sends_failed
+      none_failed_by (Sends bytes) e e.steps.receives_failed e.steps.sends_failed
 
-  pub same_calm : connections new ≡ connections old → NoneFailed connections old new
-  same_calm same = (
+  pub same_none_failed : connections new ≡ connections old → NoneFailed connections old new
+  same_none_failed same = (
     ap (λ (cs : List Connection). (current cs).receives_failed) same,
     ap (λ (cs : List Connection). (current cs).sends_failed) same,
   )

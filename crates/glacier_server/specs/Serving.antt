@@ -16,7 +16,7 @@ pub record ServedOne (config : Config) (c : Connection) (moments : List ℕ) (st
   pub served : Served config c.taken c.sent moments c.coming state new end
   pub read : end ≡ ReadFault → 0 < c.receives_failed
   pub send : end ≡ SendFault → 0 < c.sends_failed
-  pub calm : end ≢ ReadFault → end ≢ SendFault → (c.receives_failed ≡ 0) × (c.sends_failed ≡ 0)
+  pub none_failed : end ≢ ReadFault → end ≢ SendFault → (c.receives_failed ≡ 0) × (c.sends_failed ≡ 0)
 
 -- each was served in order, at readings of its own, from the state that the one before it left
 abbrev pub ServedAll : Config → List Connection → List ℕ → State → State → Type 0

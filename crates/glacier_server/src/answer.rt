@@ -102,7 +102,7 @@ pub fn refuse<S: Station>(
     ensures send_here { IsTrue S.tells →
         IfOk result (λ end. end ≡ End.SendFault →
         SendFailed S.connections station.old station.new) }
-    ensures calm { IsTrue S.tells →
+    ensures none_failed { IsTrue S.tells →
         IfOk result (λ end. end ≢ End.SendFault →
         NoneFailed S.connections station.old station.new) }
     ensures receives { S.receive_faults station.new ≡ S.receive_faults station.old }
@@ -183,7 +183,7 @@ fn send_reply<S: Station>(
         HasRisen (S.send_faults station.old) (S.send_faults station.new) }
     ensures send_here { IsTrue S.tells → result ≡ Ok false →
         SendFailed S.connections station.old station.new }
-    ensures calm { IsTrue S.tells → result ≡ Ok true →
+    ensures none_failed { IsTrue S.tells → result ≡ Ok true →
         NoneFailed S.connections station.old station.new }
     ensures receives { S.receive_faults station.new ≡ S.receive_faults station.old }
     ensures sends { S.send_faults station.old ≤ S.send_faults station.new }
@@ -232,7 +232,7 @@ pub fn answer<S: Station>(
     ensures send_here { IsTrue S.tells →
         IfOk result (λ end. end ≡ Some End.SendFault →
         SendFailed S.connections station.old station.new) }
-    ensures calm { IsTrue S.tells →
+    ensures none_failed { IsTrue S.tells →
         IfOk result (λ end. end ≢ Some End.ReadFault → end ≢ Some End.SendFault →
         NoneFailed S.connections station.old station.new) }
     ensures receives { S.receive_faults station.old ≤ S.receive_faults station.new }

@@ -22,7 +22,7 @@ fn take_piece<S: Station>(station: &mut S, piece: &mut [u8], left: u64) -> Resul
         OnErr result (Moves S.connections S.readings station.old station.new [] [] []) }
     ensures here { IsTrue S.tells →
         OnErr result (ReceiveFailed S.connections station.old station.new) }
-    ensures calm { IsTrue S.tells →
+    ensures none_failed { IsTrue S.tells →
         OnOk result (NoneFailed S.connections station.old station.new) }
     ensures connected { S.is_connected station.new ≡ true }
     ensures cause { HasCause (S.receive_faults station.old) (S.receive_faults station.new) result }
@@ -62,7 +62,7 @@ pub fn take_rest<S: Station>(
     ensures some { IfErr result (λ e. 0 < e.1) }
     ensures here { IsTrue S.tells →
         OnErr result (ReceiveFailed S.connections station.old station.new) }
-    ensures calm { IsTrue S.tells →
+    ensures none_failed { IsTrue S.tells →
         OnOk result (NoneFailed S.connections station.old station.new) }
     ensures connected { S.is_connected station.new ≡ true }
     ensures cause { HasCause (S.receive_faults station.old) (S.receive_faults station.new) result }

@@ -60,7 +60,7 @@ fn one_message<S: Station>(
     ensures send_here { IsTrue S.tells →
         IfOk result (λ end. end ≡ Some End.SendFault →
         SendFailed S.connections station.old station.new) }
-    ensures calm { IsTrue S.tells →
+    ensures none_failed { IsTrue S.tells →
         IfOk result (λ end. end ≢ Some End.ReadFault → end ≢ Some End.SendFault →
         NoneFailed S.connections station.old station.new) }
     ensures receives { S.receive_faults station.old ≤ S.receive_faults station.new }
@@ -108,7 +108,7 @@ pub fn serve_connection<S: Station>(
         HasRisen (S.send_faults station.old) (S.send_faults station.new)) }
     ensures send_here { IsTrue S.tells →
         IfOk result (λ r. r.0 ≡ End.SendFault → SendFailed S.connections station.old station.new) }
-    ensures calm { IsTrue S.tells →
+    ensures none_failed { IsTrue S.tells →
         IfOk result (λ r. r.0 ≢ End.ReadFault → r.0 ≢ End.SendFault →
         NoneFailed S.connections station.old station.new) }
     ensures receives { S.receive_faults station.old ≤ S.receive_faults station.new }

@@ -33,7 +33,7 @@ pub fn find_head<S: Station>(
         TakesBehind S.connections S.readings station.old station.new unread.old unread.new }
     ensures here { IsTrue S.tells →
         OnErr result (ReceiveFailed S.connections station.old station.new) }
-    ensures calm { IsTrue S.tells →
+    ensures none_failed { IsTrue S.tells →
         OnOk result (NoneFailed S.connections station.old station.new) }
     ensures end { IsTrue S.tells → result ≡ Ok Found.Ended → NoneComing S.connections station.new }
     ensures connected { S.is_connected station.new ≡ true }

@@ -18,7 +18,7 @@ pub fn receive<S: Station>(station: &mut S, into: &mut [u8]) -> Result<usize, Fa
         OnErr result (Moves S.connections S.readings station.old station.new [] [] []) }
     ensures here { IsTrue S.tells →
         OnErr result (ReceiveFailed S.connections station.old station.new) }
-    ensures calm { IsTrue S.tells →
+    ensures none_failed { IsTrue S.tells →
         OnOk result (NoneFailed S.connections station.old station.new) }
     ensures end { IsTrue S.tells → result ≡ Ok 0 → NoneComing S.connections station.new }
     ensures fits { (k : ℕ) → slice_index into.new k < 256 }
@@ -44,7 +44,7 @@ pub fn send<S: Station>(station: &mut S, bytes: &[u8]) -> Result<(), Failed>
         (take n bytes.now) []) }
     ensures here { IsTrue S.tells →
         OnErr result (SendFailed S.connections station.old station.new) }
-    ensures calm { IsTrue S.tells →
+    ensures none_failed { IsTrue S.tells →
         OnOk result (NoneFailed S.connections station.old station.new) }
     ensures connected { S.is_connected station.new ≡ true }
     ensures cause { HasCause (S.send_faults station.old) (S.send_faults station.new) result }
@@ -63,7 +63,7 @@ pub fn now<S: Station>(station: &mut S) -> Moment
     requires { S.is_connected station.old ≡ true }
     ensures reads { IsTrue S.tells →
         Moves S.connections S.readings station.old station.new [] [] (result ∷ []) }
-    ensures calm { IsTrue S.tells → NoneFailed S.connections station.old station.new }
+    ensures none_failed { IsTrue S.tells → NoneFailed S.connections station.old station.new }
     ensures connected { S.is_connected station.new ≡ true }
     ensures receives { S.receive_faults station.new ≡ S.receive_faults station.old }
     ensures sends { S.send_faults station.new ≡ S.send_faults station.old }

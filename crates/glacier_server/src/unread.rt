@@ -51,7 +51,7 @@ fn receive_at<S: Station>(station: &mut S, buffer: &mut [u8], end: usize) -> Res
         OnErr result (Moves S.connections S.readings station.old station.new [] [] []) }
     ensures here { IsTrue S.tells →
         OnErr result (ReceiveFailed S.connections station.old station.new) }
-    ensures calm { IsTrue S.tells →
+    ensures none_failed { IsTrue S.tells →
         OnOk result (NoneFailed S.connections station.old station.new) }
     ensures end { IsTrue S.tells → result ≡ Ok 0 → NoneComing S.connections station.new }
     ensures connected { S.is_connected station.new ≡ true }
@@ -83,7 +83,7 @@ fn refill<S: Station>(
         OnErr result (Moves S.connections S.readings station.old station.new [] [] []) }
     ensures here { IsTrue S.tells →
         OnErr result (ReceiveFailed S.connections station.old station.new) }
-    ensures calm { IsTrue S.tells →
+    ensures none_failed { IsTrue S.tells →
         OnOk result (NoneFailed S.connections station.old station.new) }
     ensures end { IsTrue S.tells → result ≡ Ok 0 → NoneComing S.connections station.new }
     ensures connected { S.is_connected station.new ≡ true }
@@ -147,7 +147,7 @@ impl Unread {
             OnErr result (Moves S.connections S.readings station.old station.new [] [] []) }
         ensures here { IsTrue S.tells →
             OnErr result (ReceiveFailed S.connections station.old station.new) }
-        ensures calm { IsTrue S.tells →
+        ensures none_failed { IsTrue S.tells →
             OnOk result (NoneFailed S.connections station.old station.new) }
         ensures connected { S.is_connected station.new ≡ true }
         ensures cause { HasCause (S.receive_faults station.old) (S.receive_faults station.new)

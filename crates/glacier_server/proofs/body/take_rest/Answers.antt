@@ -8,7 +8,7 @@ loop-left-preserved g c = record {
   takes = λ t.
       of_more g.S.Station.connections g.S.Station.readings c.args.station.now c.loop-left.station c.take_piece.new.station _ _ _
       (c.loop-left.invariant.takes t) (c.in-Ok.ensures.takes t);
-  calm = λ t. let p = c.loop-left.invariant.calm t in let q = c.in-Ok.ensures.calm t in (q.0 ∙ p.0, q.1 ∙ p.1);
+  none_failed = λ t. let p = c.loop-left.invariant.none_failed t in let q = c.in-Ok.ensures.none_failed t in (q.0 ∙ p.0, q.1 ∙ p.1);
   connected = search rules;
   later = grind (arith, c.loop-left.invariant.later, c.in-Ok.ensures.cause);
   sends = search rules;
@@ -19,7 +19,7 @@ pub loop-left-init : goal.loop-left-init
 loop-left-init g c = record {
   within = omega arith;
   takes = λ t. of_none g.S.Station.connections g.S.Station.readings c.args.station.now c.args.missing;
-  calm = λ t. (refl, refl);
+  none_failed = λ t. (refl, refl);
   connected = c.requires.connected;
   later = omega arith;
   sends = refl;

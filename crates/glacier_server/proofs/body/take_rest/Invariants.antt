@@ -6,7 +6,7 @@ abbrev pub invariant-loop-left : goal.invariant-loop-left
 invariant-loop-left g l = record {
   within : l.left ≤ l.fn.missing;
   takes : IsTrue g.S.Disk.tells → TakesOf g.S.Station.connections g.S.Station.readings l.fn.station l.station l.fn.missing l.left;
-  calm : IsTrue g.S.Disk.tells → NoneFailed g.S.Station.connections l.fn.station l.station;
+  none_failed : IsTrue g.S.Disk.tells → NoneFailed g.S.Station.connections l.fn.station l.station;
   connected : g.S.Station.is_connected l.station ≡ true;
   later : g.S.Station.receive_faults l.fn.station ≤ g.S.Station.receive_faults l.station;
   sends : g.S.Station.send_faults l.station ≡ g.S.Station.send_faults l.fn.station;

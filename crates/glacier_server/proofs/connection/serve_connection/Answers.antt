@@ -6,7 +6,7 @@ pub messages-init : goal.messages-init
 messages-init g c = record {
   below = omega arith;
   so_far = λ t. at_start g.S.Station.connections g.S.Station.readings c.args.config.now c.args.station.now c.args.store _ c.in-Ok.ensures;
-  calm = λ t. (refl, refl);
+  none_failed = λ t. (refl, refl);
   connected = search rules;
   receives = omega arith;
   sends = omega arith;
@@ -20,9 +20,9 @@ messages-preserved g c = record {
       one_more_last g.S.Station.connections g.S.Station.readings c.args.config.now c.args.station.now c.args.store
       c.messages.count c.messages.station c.one_message.new.station _ _ (c.messages.invariant.so_far t)
       _ _ _ c.in-Ok-None.field-0-is (c.in-Ok-None.ensures.turn t);
-  calm = λ t.
-      let p = c.messages.invariant.calm t in
-      let q = c.in-Ok-None.ensures.calm t (search rules) (search rules) in
+  none_failed = λ t.
+      let p = c.messages.invariant.none_failed t in
+      let q = c.in-Ok-None.ensures.none_failed t (search rules) (search rules) in
       (q.0 ∙ p.0, q.1 ∙ p.1);
   connected = search rules;
   receives = omega (arith, c.messages.invariant.receives, c.one_message.ensures.receives);

@@ -8,7 +8,7 @@ invariant-messages g l = record {
   below : l.count < 1000;
   so_far : IsTrue g.S.Disk.tells →
       SoFarLast g.S.Station.connections g.S.Station.readings l.fn.config l.count l.fn.station l.station l.desk.unread l.initial.store l.store;
-  calm : IsTrue g.S.Disk.tells → NoneFailed g.S.Station.connections l.fn.station l.station;
+  none_failed : IsTrue g.S.Disk.tells → NoneFailed g.S.Station.connections l.fn.station l.station;
   connected : g.S.Station.is_connected l.station ≡ true;
   receives : g.S.Station.receive_faults l.fn.station ≤ g.S.Station.receive_faults l.station;
   sends : g.S.Station.send_faults l.fn.station ≤ g.S.Station.send_faults l.station;

@@ -13,7 +13,7 @@ returns-in-Bad-clause-found g c = subst (λ (l : List ℕ). IsStep l c.read_head
 pub search-init : goal.search-init
 search-init g c = record {
   moves = λ t. behind_none g.S.Station.connections g.S.Station.readings c.args.station.now c.args.unread.now;
-  calm = λ t. (refl, refl);
+  none_failed = λ t. (refl, refl);
   connected = c.requires;
   later = omega arith;
   sends = refl;
@@ -25,7 +25,7 @@ search-preserved g c = record {
   moves = λ t.
       behind_more g.S.Station.connections g.S.Station.readings c.args.station.now c.search.station c.fill.new.station _ _ _
       (c.search.invariant.moves t) (c.in-Ok-true.ensures.takes t);
-  calm = λ t. let p = c.search.invariant.calm t in let q = c.in-Ok-true.ensures.calm t in (q.0 ∙ p.0, q.1 ∙ p.1);
+  none_failed = λ t. let p = c.search.invariant.none_failed t in let q = c.in-Ok-true.ensures.none_failed t in (q.0 ∙ p.0, q.1 ∙ p.1);
   connected = search rules;
   later = grind (arith, c.search.invariant.later, c.fill.ensures.cause);
   sends = search rules;

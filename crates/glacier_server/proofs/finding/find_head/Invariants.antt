@@ -5,7 +5,7 @@ use Rattle.glacier_server.proofs.finding.find_head.Given as goal
 abbrev pub invariant-search : goal.invariant-search
 invariant-search g l = record {
   moves : IsTrue g.S.Disk.tells → TakesBehind g.S.Station.connections g.S.Station.readings l.fn.station l.station l.fn.unread l.unread;
-  calm : IsTrue g.S.Disk.tells → NoneFailed g.S.Station.connections l.fn.station l.station;
+  none_failed : IsTrue g.S.Disk.tells → NoneFailed g.S.Station.connections l.fn.station l.station;
   connected : g.S.Station.is_connected l.station ≡ true;
   later : g.S.Station.receive_faults l.fn.station ≤ g.S.Station.receive_faults l.station;
   sends : g.S.Station.send_faults l.station ≡ g.S.Station.send_faults l.fn.station;

@@ -1,4 +1,4 @@
-use Rattle.glacier_server.proofs.StepLemmas.{sends, sends_calm, sends_part, send_failed}
+use Rattle.glacier_server.proofs.StepLemmas.{sends, sends_none_failed, sends_part, send_failed}
 use Rattle.glacier_server.proofs.moves.send.Goals as goal
 
 pub returns-in-Ok-clause-sends : goal.returns-in-Ok-clause-sends
@@ -15,6 +15,6 @@ returns-in-Err-clause-here g c t =
     let part = c.in-Err.ensures.failed t in
     send_failed g.S.Station.connections g.S.Station.readings c.args.station.now c.send.new.self part.0 c.args.bytes.now part.1
 
-pub returns-in-Ok-clause-calm : goal.returns-in-Ok-clause-calm
-returns-in-Ok-clause-calm g c t =
-    sends_calm g.S.Station.connections c.args.station.now c.send.new.self c.args.bytes.now (c.in-Ok.ensures.sends t)
+pub returns-in-Ok-clause-none_failed : goal.returns-in-Ok-clause-none_failed
+returns-in-Ok-clause-none_failed g c t =
+    sends_none_failed g.S.Station.connections c.args.station.now c.send.new.self c.args.bytes.now (c.in-Ok.ensures.sends t)

@@ -7,7 +7,7 @@ returns-in-Ok-clause-served g c t old opens come =
     let done = c.serve_connection.new.station in
     serves_one g.S.Station.connections g.S.Station.readings g.S.Station.to_come c.args.config.now old c.args.station.now done c.hang_up.new.self c.args.store
     opens (g.met.S.Station.connected_last t done c.serve_connection.ensures.connected) c.hang_up.ensures.told.2 c.hang_up.ensures.told.3
-    _ _ (c.in-Ok.ensures.served t) (c.in-Ok.ensures.read_here t) (c.in-Ok.ensures.send_here t) (c.in-Ok.ensures.calm t)
+    _ _ (c.in-Ok.ensures.served t) (c.in-Ok.ensures.read_here t) (c.in-Ok.ensures.send_here t) (c.in-Ok.ensures.none_failed t)
     (come ∙ ap (λ (n : ℕ). 1 + n) (sym (c.hang_up.ensures.told.1 ∙ c.serve_connection.ensures.beside.3)))
 
 pub returns-in-Err-clause-broken : goal.returns-in-Err-clause-broken
