@@ -1,7 +1,7 @@
 -- The bounds of a station's receives.
 use Rattle.std.proofs.Common.{◌≡◌, ◌∙◌, ◌+◌, ◌≤◌, sym, ap, ℕ, min, List, [], ◌∷◌, length, drop, arith}
 use Rattle.std.proofs.lemmas.List.{drop_all, drop-drop}
-use Rattle.glacier_disk.specs.Memory.{bounded}
+use Rattle.glacier_disk.specs.PieceSizes.{bounded}
 use Rattle.glacier_disk.specs.Network.{Connection, OnLast}
 
 bounded_min : (pieces : List ℕ) (room coming : ℕ) → min room (min (bounded pieces room) coming) ≡ bounded pieces (min room coming)

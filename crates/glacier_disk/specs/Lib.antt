@@ -9,9 +9,11 @@ pub mod MemConnections
 pub mod Memory
 pub mod Moments
 pub mod Network
+pub mod PieceSizes
 pub mod RawFiles
 pub mod Readings
 pub mod Calls
+pub mod DiskCalls
 pub mod Stopped
 pub mod Time
 pub mod Told

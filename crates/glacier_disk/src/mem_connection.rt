@@ -1,7 +1,7 @@
 // One connection of the memory form.
-ghost use Rattle.std.specs.Prelude.{◌≡◌, ◌<◌, ◌≤◌, [], ℕ, List, min, length, take};
+ghost use Rattle.std.specs.Prelude.{◌≡◌, ◌<◌, ◌≤◌, ◌++◌, [], ◌∷◌, ℕ, List, min, length, take};
 ghost use Rattle.glacier_disk.specs.MemConnections.{connection_of};
-ghost use Rattle.glacier_disk.specs.Network.{accepted, Takes, TakesNone, SendsPart};
+ghost use Rattle.glacier_disk.specs.Network.{accepted, wait_of, Takes, TakesNone, SendsPart};
 
 use crate::waits::Waits;
 use glacier_base::Text;
@@ -31,6 +31,14 @@ impl MemConnection {
         }
     }
 
+    /// The waits, with that of a receive that begins now.
+    fn one_more_wait(&self) -> Waits
+        ensures { result.items ≡ self.now.waits.items ++ wait_of (connection_of self.now) ∷ [] }
+    {
+        let taken = self.taken.min(self.input.bytes().len());
+        self.waits.and(&taken, &self.sent.len())
+    }
+
     /// Takes as many bytes as there are, as fit and as the limit allows.
     pub(crate) fn take(&mut self, into: &mut [u8], limit: usize) -> usize
         ensures size { result ≡ min (length into.old)
@@ -45,7 +53,7 @@ impl MemConnection {
         let start = self.taken.min(input.len());
         let count = into.len().min(input.len() - start).min(limit);
         into[..count].copy_from_slice(&input[start..start + count]);
-        self.waits = self.waits.and(&start, &self.sent.len());
+        self.waits = self.one_more_wait();
         self.taken = start + count;
         count
     }
@@ -54,8 +62,7 @@ impl MemConnection {
     pub(crate) fn take_none(&mut self)
         ensures { TakesNone (connection_of self.old) (connection_of self.new) }
     {
-        let start = self.taken.min(self.input.bytes().len());
-        self.waits = self.waits.and(&start, &self.sent.len());
+        self.waits = self.one_more_wait();
         self.receives_failed = self.receives_failed.saturating_add(1);
     }
 

@@ -1,13 +1,13 @@
-use Rattle.std.proofs.Common.{[], refl, sym, ◌∙◌, ap, subst, map, take, is_some}
+use Rattle.std.proofs.Common.{[], refl, sym, ◌∙◌, ap, subst, take, is_some}
 use Rattle.std.specs.List.{concat}
 use Rattle.std.proofs.lemmas.List.{append-nil}
 use Rattle.glacier_disk.specs.Contents.{image_of}
 use Rattle.glacier_disk.specs.declared.call.Call.TheVariants.{Send}
-use Rattle.glacier_disk.specs.MemConnections.{connection_of, connections_on}
+use Rattle.glacier_disk.specs.MemConnections.{connection_of}
 use Rattle.glacier_disk.specs.Network.{Connection, SendsPart, on_last}
 use Rattle.glacier_disk.specs.Sent.{sent_after}
 use Rattle.glacier_disk.proofs.Connections.{on_last-nil}
-use Rattle.glacier_disk.proofs.Sending.{still_sent, send_sent, send_whole}
+use Rattle.glacier_disk.proofs.Sending.{open_step, still_sent, send_sent, send_whole}
 use Rattle.glacier_disk.proofs.LogSteps.{quiet_replays, quiet_bytes, quiet_whole, quiet_rests, quiet_passes, pushed_replays}
 use Rattle.glacier_disk.proofs.With.{pushed_still, pushed_sent, send_with}
 use Rattle.glacier_disk.proofs.call_log.CallLog.send.Goals as goal
@@ -62,13 +62,7 @@ returns-in-Err-clause-no_time c =
 
 pub returns-in-Err-clause-failed : goal.returns-in-Err-clause-failed
 returns-in-Err-clause-failed c =
-    let past = c.args.self.now.past.items in
-    let to = connection_of c.send_none.new.self in
-    record {
-      before = map connection_of past;
-      from = connection_of c.in-Some.connection;
-      to = to;
-      was = ap (connections_on past) c.in-Some.is;
-      is = refl;
-      steps = subst (λ (from : Connection). SendsPart 0 c.args.bytes.now from to) c.in-Err.ensures.same_connection (c.send_none.ensures c.args.bytes.now);
-    }
+    let t = c.args.self.now in
+    let to = c.send_none.new.self in
+    let steps = subst (λ (from : Connection). SendsPart 0 c.args.bytes.now from (connection_of to)) c.in-Err.ensures.same_connection (c.send_none.ensures c.args.bytes.now) in
+    open_step t.past.items t.last (SendsPart 0 c.args.bytes.now) c.in-Some.connection to c.in-Some.is steps

@@ -1,7 +1,6 @@
 use Rattle.std.proofs.Common.{rules, ◌≡◌, ◌∙◌, ◌+◌, ◌-◌, [], ◌∷◌, ◌++◌, arith, ap, sym, refl, List, ℕ, min, length, take, drop}
 use Rattle.std.proofs.lemmas.List.{take_at}
-use Rattle.glacier_disk.specs.Network.{Wait}
-use Rattle.glacier_disk.proofs.MemConnectionLemmas.{coming-next, taken-next, wait-is}
+use Rattle.glacier_disk.proofs.MemConnectionLemmas.{coming-next, taken-next}
 use Rattle.glacier_disk.proofs.mem_connection.MemConnection.take.Goals as goal
 
 pub returns-clause-takes : goal.returns-clause-takes
@@ -11,7 +10,6 @@ returns-clause-takes c =
     let start = c.min-start.result in
     let n = c.min-count.result in
     let is : start ≡ min connection.taken (length xs) = search rules in
-    let sent : c.len.result ≡ length connection.sent.items = search rules in
     let rest = drop n c.args.into.now in
     let m : ℕ = start + n - start in
     let exact : m ≡ n = omega arith in
@@ -22,7 +20,7 @@ returns-clause-takes c =
       coming = coming-next xs connection.taken start n is ∙ ap (λ (l : List ℕ). l ++ drop (start + n) xs) (sym bytes);
       taken = taken-next xs connection.taken start n is ∙ ap (λ (l : List ℕ). take connection.taken xs ++ l) (sym bytes);
       sent = refl;
-      waits = c.and-self.ensures ∙ ap (λ (w : Wait). connection.waits.items ++ w ∷ []) (sym (wait-is connection start c.len.result is sent));
+      waits = c.one_more_wait-self.ensures;
       receives_failed = refl;
       sends_failed = refl;
     }

@@ -1,5 +1,5 @@
 use Rattle.std.proofs.Common.{ℕ, List, length, drop, sym, ◌∙◌, ap}
-use Rattle.glacier_disk.specs.Memory.{bounded}
+use Rattle.glacier_disk.specs.PieceSizes.{bounded}
 use Rattle.glacier_disk.proofs.PieceBounds.{piece_size}
 use Rattle.glacier_disk.proofs.memory_station.MemStationStation.receive.Goals as goal
 
