@@ -6,10 +6,11 @@ pub mod Sent
 pub mod SentLaws
 pub mod Lines
 pub mod Memory
+pub mod Moments
 pub mod Network
 pub mod Readings
-pub mod NetworkLaws
 pub mod Calls
 pub mod Stopped
 pub mod Time
+pub mod Told
 pub mod Leaves
