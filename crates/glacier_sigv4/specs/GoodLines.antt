@@ -3,12 +3,12 @@ use Rattle.std.specs.Prelude.{◌≡◌, ℕ, ◌+◌, ◌≤◌, ◌⊎◌, tru
 use Rattle.glacier_sigv4.specs.declared.ring.Entry.{Entry}
 use Rattle.glacier_sigv4.specs.KeyFile.{entry_of}
 use Rattle.glacier_sigv4.specs.Rings.{are_apart, total_of}
-use Rattle.glacier_sigv4.specs.declared.ring.TheConstants.{MOST_BLOCKS, MOST_LINES}
+use Rattle.glacier_sigv4.specs.declared.ring.TheConstants.{MOST_BLOCKS, MOST_ACCOUNTS}
 
 -- each line is that of an entry, not too many, no two with one account or one access key, and the quotas are within bounds
 pub record AreGood (lines : List (List ℕ)) (entries : List Entry) : Type 0 where
   pub each : map entry_of lines ≡ map Some entries
-  pub few : length lines ≤ MOST_LINES
+  pub few : length lines ≤ MOST_ACCOUNTS
   pub apart : are_apart entries ≡ true
   pub total : total_of entries ≤ MOST_BLOCKS
 

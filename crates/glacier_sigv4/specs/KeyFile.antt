@@ -7,7 +7,7 @@ use Rattle.glacier_base.specs.Cuts.{cut_at, is_byte}
 use Rattle.glacier_http.specs.Fields.{number_of}
 use Rattle.glacier_http.specs.Judged.{is_empty}
 use Rattle.glacier_sigv4.specs.declared.ring.Entry.{Entry}
-use Rattle.glacier_sigv4.specs.declared.ring.TheConstants.{MOST_BLOCKS, MOST_LINES}
+use Rattle.glacier_sigv4.specs.declared.ring.TheConstants.{MOST_BLOCKS, MOST_ACCOUNTS}
 use Rattle.glacier_sigv4.specs.declared.key_fault.KeyFault.{KeyFault}
 use Rattle.glacier_sigv4.specs.declared.key_fault.KeyFault.TheVariants.{BadLine, Memory}
 use Rattle.glacier_sigv4.specs.Rings.{is_access, is_secret, total_of, clashes}
@@ -44,7 +44,7 @@ entry_of line = option_and_then (λ parts. entry_from parts.0 parts.1 parts.2 pa
 -- the entry clashes with none, isn't one too many, and leaves the sum of quotas within its bound
 abbrev pub fits : List Entry → Entry → Bool
 fits entries entry =
-    nat_lt (length entries) MOST_LINES && (not (list_any (clashes entry) entries) && nat_le (total_of entries + entry.quota) MOST_BLOCKS)
+    nat_lt (length entries) MOST_ACCOUNTS && (not (list_any (clashes entry) entries) && nat_le (total_of entries + entry.quota) MOST_BLOCKS)
 
 abbrev pub where_fits : List Entry → Entry → Option Entry
 where_fits entries entry = if fits entries entry then Some entry else None

@@ -6,7 +6,7 @@ ghost use Rattle.glacier_sigv4.specs.Rings.{is_visible, is_access as access_test
 ghost use Rattle.glacier_sigv4.specs.KeyFile.{quota_in, parts_of, entry_of, entry_from as entry_of_parts, fits as fits_test, next_entry, lines_of, entries_from, entries_of, Blames, parts_shown};
 
 use crate::key_fault::KeyFault;
-use crate::ring::{Entry, KeyRing, Keys, MOST_BLOCKS, MOST_KEY_BYTES, MOST_LINES, total};
+use crate::ring::{Entry, KeyRing, Keys, LONGEST_KEY, MOST_ACCOUNTS, MOST_BLOCKS, total};
 use glacier_base::{Account, Memory, Text, cut};
 use glacier_http::number;
 use std::alloc::Global;
@@ -26,13 +26,13 @@ fn are_visible(text: &[u8]) -> bool
 fn is_access(text: &[u8]) -> bool
     ensures { result ≡ access_test text.now }
 {
-    !text.is_empty() && text.len() <= MOST_KEY_BYTES && are_letters_or_digits(text)
+    !text.is_empty() && text.len() <= LONGEST_KEY && are_letters_or_digits(text)
 }
 
 fn is_secret(text: &[u8]) -> bool
     ensures { result ≡ secret_test text.now }
 {
-    !text.is_empty() && text.len() <= MOST_KEY_BYTES && are_visible(text)
+    !text.is_empty() && text.len() <= LONGEST_KEY && are_visible(text)
 }
 
 fn quota(text: &[u8]) -> Option<u64>
@@ -109,7 +109,7 @@ fn fits(entries: &[Entry], entry: &Entry) -> bool
     requires { total_of entries.now ≤ MOST_BLOCKS }
     ensures { result ≡ fits_test entries.now entry.now }
 {
-    if entries.len() >= MOST_LINES {
+    if entries.len() >= MOST_ACCOUNTS {
         return false;
     }
     if clashes(entries, entry) {

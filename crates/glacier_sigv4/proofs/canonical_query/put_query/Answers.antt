@@ -1,7 +1,7 @@
 use Rattle.std.proofs.Common.{◌≡◌, ◌++◌, false, map, ap, sym, ◌∙◌}
-use Rattle.glacier_sigv4.specs.Encoded.{shown, more_pairs}
+use Rattle.glacier_sigv4.specs.Encoded.{shown}
 use Rattle.glacier_sigv4.specs.CanonicalQuery.{canonical_pairs}
-use Rattle.glacier_sigv4.proofs.PairLemmas.{join_pairs}
+use Rattle.glacier_sigv4.proofs.PairLemmas.{join_pairs, more_pairs}
 use Rattle.glacier_sigv4.proofs.canonical_query.put_query.Goals as goal
 
 pub loop-pair-init : goal.loop-pair-init

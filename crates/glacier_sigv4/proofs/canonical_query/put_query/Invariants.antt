@@ -1,6 +1,7 @@
 use Rattle.std.proofs.Common.{◌≡◌, ◌++◌, map, drop}
 use Rattle.glacier_sigv4.specs.CanonicalQuery.{canonical_query}
-use Rattle.glacier_sigv4.specs.Encoded.{shown, more_pairs}
+use Rattle.glacier_sigv4.specs.Encoded.{shown}
+use Rattle.glacier_sigv4.proofs.PairLemmas.{more_pairs}
 use Rattle.glacier_sigv4.proofs.canonical_query.put_query.Given as goal
 
 abbrev pub invariant-loop-pair : goal.invariant-loop-pair
