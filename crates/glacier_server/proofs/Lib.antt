@@ -1,6 +1,9 @@
+mod ActLemmas
 mod AllSentLemmas
 mod AnswerLemmas
+mod CommitLemmas
 mod ConnectionLemmas
+mod CutLemmas
 mod EventLemmas
 mod Examples
 mod ExtentLemmas
@@ -11,7 +14,7 @@ mod OutLemmas
 mod ReplyLemmas
 mod RunLemmas
 mod RunOneLemmas
-mod ServingLemmas
+pub mod ServingLemmas
 mod StepLemmas
 mod StoreLemmas
 mod TurnLemmas

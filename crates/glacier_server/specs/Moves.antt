@@ -1,7 +1,10 @@
--- What a stretch of calls did to the connection that was accepted last.
-use Rattle.std.specs.Prelude.{◌≡◌, ℕ, ◌+◌, ◌≤◌, ◌-◌, ◌^◌, min, Bool, List, [], ◌∷◌, ◌++◌, length}
+-- What a stretch of calls did on the connection that was accepted last, and to the store.
+use Rattle.std.specs.Prelude.{◌≡◌, ℕ, ◌+◌, ◌≤◌, true, List, [], ◌∷◌, ◌++◌, length}
 use Rattle.glacier_base.specs.Outside.{HasRisen}
-use Rattle.glacier_disk.specs.Network.{Connection, accepted}
+use Rattle.glacier_disk.specs.Network.{Connection, accepted, sent_on}
+use Rattle.glacier_disk.specs.Told.{Told}
+use Rattle.glacier_server.specs.Acts.{Act, bytes_of, sent_by, after_acts}
+use Rattle.glacier_server.specs.Machine.{State}
 
 -- the connection that was accepted last
 abbrev pub current : List Connection → Connection
@@ -15,65 +18,60 @@ others [] = []
 others (c ∷ []) = []
 others (c ∷ d ∷ cs) = c ∷ others (d ∷ cs)
 
--- the count doesn't fall, up to its type's end
-abbrev pub NotFallen : ℕ → ℕ → Type 0
-NotFallen before now = min before (2 ^ 64 - 1) ≤ now
+-- what failed last, after which no other call was made: a receive, a send, or what breaks the server off
+pub data Failing : Type 0 where
+  nothing : Failing
+  receiving : Failing
+  sending : Failing
+  breaking : Failing
 
--- on the last connection these bytes were taken and these were sent, and these readings were taken
-pub record Moves {S : Type 0} (connections : S → List Connection) (readings : S → List ℕ)
-    (old new : S) (taken sent moments : List ℕ) : Type 0 where
-  pub took : (current (connections new)).taken ≡ (current (connections old)).taken ++ taken
-  pub coming : (current (connections old)).coming ≡ taken ++ (current (connections new)).coming
-  pub sent_now : (current (connections new)).sent ≡ (current (connections old)).sent ++ sent
-  pub read : readings new ≡ readings old ++ moments
-  pub rest : others (connections new) ≡ others (connections old)
-  pub receives : NotFallen (current (connections old)).receives_failed
-      (current (connections new)).receives_failed
-  pub sends : NotFallen (current (connections old)).sends_failed
-      (current (connections new)).sends_failed
+-- how the counts of the last connection show it
+abbrev pub Fails : Failing → Connection → Connection → Type 0
+Fails nothing old new = (new.receives_failed ≡ old.receives_failed) × (new.sends_failed ≡ old.sends_failed)
+Fails receiving old new = HasRisen old.receives_failed new.receives_failed
+Fails sending old new = HasRisen old.sends_failed new.sends_failed
+Fails breaking old new = (new.receives_failed ≡ old.receives_failed) × (new.sends_failed ≡ old.sends_failed)
+
+-- these acts were done, and the state after is that after their events
+pub record Does (old new : Told) (state after : State) (acts : List Act) : Type 0 where
+  pub all_sent : sent_on new.connections ≡ sent_by acts (sent_on old.connections)
+  pub after_is : after ≡ after_acts state acts
+
+-- bytes were taken on the last connection, these acts were done, these readings were taken, and this failed
+pub record Moves (old new : Told) (state after : State) (taken : List ℕ) (acts : List Act) (moments : List ℕ) (failing : Failing) : Type 0 where
+  pub took : (current new.connections).taken ≡ (current old.connections).taken ++ taken
+  pub coming : (current old.connections).coming ≡ taken ++ (current new.connections).coming
+  pub sent_now : (current new.connections).sent ≡ (current old.connections).sent ++ bytes_of acts
+  pub read : new.readings ≡ old.readings ++ moments
+  pub rest : others new.connections ≡ others old.connections
+  pub fails : Fails failing (current old.connections) (current new.connections)
+  pub does : Does old new state after acts
 
 -- bytes were taken behind those that were unread
-pub record TakesBehind {S : Type 0} (connections : S → List Connection) (readings : S → List ℕ)
-    (old new : S) (unread now : List ℕ) : Type 0 where
+pub record TakesBehind (old new : Told) (state : State) (unread now : List ℕ) (failing : Failing) : Type 0 where
   pub got : List ℕ
   pub behind : now ≡ unread ++ got
-  pub moves : Moves connections readings old new got [] []
+  pub moves : Moves old new state state got [] [] failing
 
 -- bytes were taken of those that were missing, and so many are still missing
-pub record TakesOf {S : Type 0} (connections : S → List Connection) (readings : S → List ℕ)
-    (old new : S) (missing left : ℕ) : Type 0 where
+pub record TakesOf (old new : Told) (state : State) (missing left : ℕ) (failing : Failing) : Type 0 where
   pub got : List ℕ
   pub sum : left + length got ≡ missing
-  pub moves : Moves connections readings old new got [] []
+  pub moves : Moves old new state state got [] [] failing
 
--- a receive on the last connection has failed
-abbrev pub ReceiveFailed : {S : Type 0} → (S → List Connection) → S → S → Type 0
-ReceiveFailed connections old new =
-    HasRisen (current (connections old)).receives_failed (current (connections new)).receives_failed
+-- no byte of the last connection is left to come
+abbrev pub NoneComing : Told → Type 0
+NoneComing now = (current now.connections).coming ≡ []
 
--- a send on it has failed
-abbrev pub SendFailed : {S : Type 0} → (S → List Connection) → S → S → Type 0
-SendFailed connections old new =
-    HasRisen (current (connections old)).sends_failed (current (connections new)).sends_failed
+-- what calls on a connection keep, on every form: it is open, and the listener and the disk's names are left alone
+pub record Keeps (old new : Told) : Type 0 where
+  pub connected : new.connected ≡ true
+  pub listener : new.listener ≡ old.listener
+  pub folders : new.folders ≡ old.folders
+  pub receives : old.receive_faults ≤ new.receive_faults
+  pub sends : old.send_faults ≤ new.send_faults
 
--- no call on it has failed
-abbrev pub NoneFailed : {S : Type 0} → (S → List Connection) → S → S → Type 0
-NoneFailed connections old new =
-    ((current (connections new)).receives_failed ≡ (current (connections old)).receives_failed)
-    × ((current (connections new)).sends_failed ≡ (current (connections old)).sends_failed)
-
--- no byte of it is left to come
-abbrev pub NoneComing : {S : Type 0} → (S → List Connection) → S → Type 0
-NoneComing connections now = (current (connections now)).coming ≡ []
-
--- no name more was told to the outside
-abbrev pub SameNames : {S : Type 0} → (S → List (List ℕ)) → (S → List (List ℕ)) → S → S → Type 0
-SameNames addresses folders old new = (addresses new ≡ addresses old) × (folders new ≡ folders old)
-
--- what calls on a connection leave alone: the listener, the names told, and what is to come
-abbrev pub SameBeside : {S : Type 0} → (S → Bool) → (S → List (List ℕ)) → (S → List (List ℕ))
-    → (S → ℕ) → (S → ℕ) → S → S → Type 0
-SameBeside is_listening addresses folders to_come accept_faults old new =
-    (is_listening new ≡ is_listening old) × (addresses new ≡ addresses old)
-    × (folders new ≡ folders old)
-    × (to_come new ≡ to_come old) × (accept_faults new ≡ accept_faults old)
+-- the count of the call that failed has risen, on every form
+pub record Counts (failing : Failing) (old new : Told) : Type 0 where
+  pub receives : failing ≡ receiving → HasRisen old.receive_faults new.receive_faults
+  pub sends : failing ≡ sending → HasRisen old.send_faults new.send_faults

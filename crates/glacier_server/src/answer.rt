@@ -1,14 +1,15 @@
 // Answering one message.
-ghost use Rattle.std.specs.Prelude.{◌≡◌, ◌≢◌, ◌+◌, [], ◌==◌, ◌<◌, ◌≤◌, ◌^◌, ℕ, IsTrue, Option, Some, None, length, take, true, false, IfOk, OnOk, OnErr};
-ghost use Rattle.glacier_base.specs.Outside.{HasRisen};
+ghost use Rattle.std.specs.Prelude.{◌≡◌, ◌+◌, [], ◌==◌, ◌<◌, ◌≤◌, ◌^◌, ℕ, IsTrue, Option, Some, None, length, take, true, false, IfOk, OnOk, OnErr};
 ghost use Rattle.glacier_http.specs.Messages.{bad as Bad, last_end};
 ghost use Rattle.glacier_http.specs.Spans.{IsGood};
 ghost use Rattle.glacier_http.specs.Step.{IsStep};
 ghost use Rattle.glacier_http.specs.declared.head_spans.HeadStep.TheVariants as step;
 ghost use Rattle.glacier_server.specs.Finding.{AtFront};
 ghost use Rattle.glacier_server.specs.Machine.{reply as reply_to, after};
-ghost use Rattle.glacier_server.specs.Moves.{Moves, SameBeside, ReceiveFailed, SendFailed, NoneFailed};
-ghost use Rattle.glacier_server.specs.Turn.{Turns, BreaksOff, Refuses, RefusesPart, end_for_some, end_of_good};
+ghost use Rattle.glacier_server.specs.Out.{done};
+ghost use Rattle.glacier_server.specs.Moves.{Moves, nothing, sending, breaking, Keeps, Counts};
+ghost use Rattle.glacier_server.specs.Served.{failing_of};
+ghost use Rattle.glacier_server.specs.Turn.{Turns, BreaksOff, Refuses, RefusesPart, failing_at, end_for_some, end_of_good};
 
 use crate::body::take_rest;
 use crate::end::End;
@@ -54,8 +55,7 @@ impl Desk {
 fn bad_end(count: u64) -> End
     requires { count < 1000 }
     ensures end { (cause : _) → end_for_some (last_end count (Bad cause)) ≡ Some result }
-    ensures read { result ≢ End.ReadFault }
-    ensures send { result ≢ End.SendFault }
+    ensures of_none { failing_of result ≡ nothing }
 {
     if count + 1 == MOST_MESSAGES {
         End::Bound
@@ -68,6 +68,7 @@ fn bad_end(count: u64) -> End
 fn good_end(count: u64, close: bool) -> Option<End>
     requires { count < 1000 }
     ensures end { result ≡ end_of_good count close }
+    ensures of_none { failing_at result ≡ nothing }
     ensures below { result ≡ None → count + 1 < 1000 }
 {
     if count + 1 == MOST_MESSAGES {
@@ -80,6 +81,7 @@ fn good_end(count: u64, close: bool) -> Option<End>
 }
 
 /// Answers a bad head, which ends the connection.
+#[tactic(auto, using(crate::proofs::MoveLemmas::kept))]
 pub fn refuse<S: Station>(
     alloc: Global,
     station: &mut S,
@@ -87,28 +89,16 @@ pub fn refuse<S: Station>(
     cause: BadHead,
     count: u64,
 ) -> Result<End, Memory>
-    requires connected { S.is_connected station.old ≡ true }
+    requires connected { (S.told station.old).connected ≡ true }
     requires below { count < 1000 }
     ensures turn { IsTrue S.tells →
-        IfOk result (λ end. Refuses S.connections S.readings config.now count station.old
-        station.new cause end) }
+        IfOk result (λ end. Refuses config.now count (S.told station.old) (S.told station.new)
+        cause end) }
     ensures memory { IsTrue S.tells →
-        OnErr result (RefusesPart S.connections S.readings config.now count station.old station.new
-        cause) }
-    ensures connected { S.is_connected station.new ≡ true }
-    ensures read { IfOk result (λ end. end ≢ End.ReadFault) }
-    ensures send { IfOk result (λ end. end ≡ End.SendFault →
-        HasRisen (S.send_faults station.old) (S.send_faults station.new)) }
-    ensures send_here { IsTrue S.tells →
-        IfOk result (λ end. end ≡ End.SendFault →
-        SendFailed S.connections station.old station.new) }
-    ensures none_failed { IsTrue S.tells →
-        IfOk result (λ end. end ≢ End.SendFault →
-        NoneFailed S.connections station.old station.new) }
-    ensures receives { S.receive_faults station.new ≡ S.receive_faults station.old }
-    ensures sends { S.send_faults station.old ≤ S.send_faults station.new }
-    ensures beside { SameBeside S.is_listening S.addresses S.folders S.to_come S.accept_faults
-        station.old station.new }
+        OnErr result (RefusesPart config.now count (S.told station.old) (S.told station.new) cause) }
+    ensures keeps { Keeps (S.told station.old) (S.told station.new) }
+    ensures cause { IfOk result (λ end. Counts (failing_of end) (S.told station.old) (S.told
+        station.new)) }
 {
     let reading = now(station);
     let reply = match answer_bad(alloc, config, cause, reading) {
@@ -163,32 +153,23 @@ fn send_reply<S: Station>(
     reading: Moment,
     close: bool,
 ) -> Result<bool, Memory>
-    requires connected { S.is_connected station.old ≡ true }
+    requires connected { (S.told station.old).connected ≡ true }
     requires good { IsGood desk.now.unread desk.now.head spans.now }
     ensures sent { IsTrue S.tells →
         AtFront desk.now.unread spans.now
-        (λ m. result ≡ Ok true → Moves S.connections S.readings station.old station.new []
-        (reply_to config.now store.old m reading close) []) }
+        (λ m. result ≡ Ok true → Moves (S.told station.old) (S.told station.new) store.old store.new
+        [] (done config.now store.old m reading close) [] nothing) }
     ensures failed { IsTrue S.tells →
         AtFront desk.now.unread spans.now
-        (λ m. result ≡ Ok false → (k : ℕ)
-        × Moves S.connections S.readings station.old station.new []
-        (take k (reply_to config.now store.old m reading close)) []) }
+        (λ m. result ≡ Ok false → (k : ℕ) × Moves (S.told station.old) (S.told station.new)
+        store.old store.new [] (take k (done config.now store.old m reading close)) [] sending) }
     ensures store { AtFront desk.now.unread spans.now
         (λ m. OnOk result (store.new ≡ after config.now store.old m reading)) }
-    ensures memory { IsTrue S.tells →
-        OnErr result (Moves S.connections S.readings station.old station.new [] [] []) }
-    ensures connected { S.is_connected station.new ≡ true }
-    ensures send { result ≡ Ok false →
-        HasRisen (S.send_faults station.old) (S.send_faults station.new) }
-    ensures send_here { IsTrue S.tells → result ≡ Ok false →
-        SendFailed S.connections station.old station.new }
-    ensures none_failed { IsTrue S.tells → result ≡ Ok true →
-        NoneFailed S.connections station.old station.new }
-    ensures receives { S.receive_faults station.new ≡ S.receive_faults station.old }
-    ensures sends { S.send_faults station.old ≤ S.send_faults station.new }
-    ensures beside { SameBeside S.is_listening S.addresses S.folders S.to_come S.accept_faults
-        station.old station.new }
+    ensures broken { IsTrue S.tells →
+        OnErr result (Moves (S.told station.old) (S.told station.new) store.old store.old [] [] []
+        breaking) }
+    ensures keeps { Keeps (S.told station.old) (S.told station.new) }
+    ensures cause { result ≡ Ok false → Counts sending (S.told station.old) (S.told station.new) }
 {
     let reply = match reply_of(alloc, desk, spans, store, config, reading, close) {
         Ok(reply) => reply,
@@ -201,6 +182,7 @@ fn send_reply<S: Station>(
 }
 
 /// Answers the message whose good head stands at the front of the unread bytes.
+#[tactic(auto, using(crate::proofs::MoveLemmas::kept))]
 pub fn answer<S: Station>(
     alloc: Global,
     station: &mut S,
@@ -210,35 +192,20 @@ pub fn answer<S: Station>(
     store: &mut Store,
     config: &Config,
 ) -> Result<Option<End>, Memory>
-    requires connected { S.is_connected station.old ≡ true }
+    requires connected { (S.told station.old).connected ≡ true }
     requires good { IsStep desk.old.unread desk.old.head (step.Head spans.now) }
     requires small { spans.now.content_length ≤ 2 ^ 33 }
     requires below { count < 1000 }
     ensures turn { IsTrue S.tells →
-        IfOk result (λ end. Turns S.connections S.readings config.now count station.old station.new
+        IfOk result (λ end. Turns config.now count (S.told station.old) (S.told station.new)
         desk.old.unread desk.new.unread store.old store.new end) }
-    ensures memory { IsTrue S.tells →
-        OnErr result (BreaksOff S.connections S.readings config.now count station.old station.new
+    ensures broken { IsTrue S.tells →
+        OnErr result (BreaksOff config.now count (S.told station.old) (S.told station.new)
         desk.old.unread store.old) }
     ensures below { result ≡ Ok None → count + 1 < 1000 }
-    ensures connected { S.is_connected station.new ≡ true }
-    ensures read { IfOk result (λ end. end ≡ Some End.ReadFault →
-        HasRisen (S.receive_faults station.old) (S.receive_faults station.new)) }
-    ensures read_here { IsTrue S.tells →
-        IfOk result (λ end. end ≡ Some End.ReadFault →
-        ReceiveFailed S.connections station.old station.new) }
-    ensures send { IfOk result (λ end. end ≡ Some End.SendFault →
-        HasRisen (S.send_faults station.old) (S.send_faults station.new)) }
-    ensures send_here { IsTrue S.tells →
-        IfOk result (λ end. end ≡ Some End.SendFault →
-        SendFailed S.connections station.old station.new) }
-    ensures none_failed { IsTrue S.tells →
-        IfOk result (λ end. end ≢ Some End.ReadFault → end ≢ Some End.SendFault →
-        NoneFailed S.connections station.old station.new) }
-    ensures receives { S.receive_faults station.old ≤ S.receive_faults station.new }
-    ensures sends { S.send_faults station.old ≤ S.send_faults station.new }
-    ensures beside { SameBeside S.is_listening S.addresses S.folders S.to_come S.accept_faults
-        station.old station.new }
+    ensures keeps { Keeps (S.told station.old) (S.told station.new) }
+    ensures cause { IfOk result (λ end. Counts (failing_at end) (S.told station.old) (S.told
+        station.new)) }
 {
     let reading = now(station);
     let length = desk.unread.count();

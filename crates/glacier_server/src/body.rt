@@ -1,7 +1,7 @@
 // Taking the rest of a body.
-ghost use Rattle.std.specs.Prelude.{◌≡◌, ◌<◌, ◌≤◌, [], IsTrue, length, true, IfOk, IfErr, OnOk, OnErr};
-ghost use Rattle.glacier_base.specs.Outside.{HasCause};
-ghost use Rattle.glacier_server.specs.Moves.{Moves, TakesOf, SameBeside, ReceiveFailed, NoneFailed, NoneComing};
+ghost use Rattle.std.specs.Prelude.{◌≡◌, ◌<◌, ◌≤◌, [], IsTrue, length, true, IfOk, IfErr, OnErr};
+ghost use Rattle.glacier_server.specs.Machine.{State};
+ghost use Rattle.glacier_server.specs.Moves.{Moves, nothing, receiving, TakesOf, NoneComing, Keeps, Counts};
 
 use crate::moves::receive;
 use glacier_base::Failed;
@@ -10,25 +10,20 @@ use glacier_disk::Station;
 /// Takes one piece of a body, of which so many bytes are missing, and no byte behind it. It answers
 /// how many are missing then.
 fn take_piece<S: Station>(station: &mut S, piece: &mut [u8], left: u64) -> Result<u64, Failed>
-    requires connected { S.is_connected station.old ≡ true }
+    requires connected { (S.told station.old).connected ≡ true }
     requires room { 0 < length piece.old }
     requires some { 0 < left }
-    ensures takes { IsTrue S.tells →
-        IfOk result (λ now. TakesOf S.connections S.readings station.old station.new left now) }
+    ensures takes { IsTrue S.tells → (state : State) →
+        IfOk result (λ now. TakesOf (S.told station.old) (S.told station.new) state left now
+        nothing) }
     ensures fewer { IfOk result (λ now. now ≤ left) }
-    ensures end { IsTrue S.tells →
-        IfOk result (λ now. now ≡ left → NoneComing S.connections station.new) }
-    ensures failed { IsTrue S.tells →
-        OnErr result (Moves S.connections S.readings station.old station.new [] [] []) }
-    ensures here { IsTrue S.tells →
-        OnErr result (ReceiveFailed S.connections station.old station.new) }
-    ensures none_failed { IsTrue S.tells →
-        OnOk result (NoneFailed S.connections station.old station.new) }
-    ensures connected { S.is_connected station.new ≡ true }
-    ensures cause { HasCause (S.receive_faults station.old) (S.receive_faults station.new) result }
-    ensures sends { S.send_faults station.new ≡ S.send_faults station.old }
-    ensures beside { SameBeside S.is_listening S.addresses S.folders S.to_come S.accept_faults
-        station.old station.new }
+    ensures end { IsTrue S.tells → IfOk result (λ now. now ≡ left →
+        NoneComing (S.told station.new)) }
+    ensures failed { IsTrue S.tells → (state : State) →
+        OnErr result (Moves (S.told station.old) (S.told station.new) state state [] [] []
+        receiving) }
+    ensures keeps { Keeps (S.told station.old) (S.told station.new) }
+    ensures cause { OnErr result (Counts receiving (S.told station.old) (S.told station.new)) }
 {
     let most = if left < piece.len() as u64 {
         left as usize
@@ -44,31 +39,26 @@ fn take_piece<S: Station>(station: &mut S, piece: &mut [u8], left: u64) -> Resul
 
 /// Takes what is missing of a body, piece after piece, until it is whole or the input ends. It
 /// answers how many bytes are missing then.
+#[tactic(auto, using(crate::proofs::MoveLemmas::kept))]
 pub fn take_rest<S: Station>(
     station: &mut S,
     piece: &mut [u8],
     missing: u64,
 ) -> Result<u64, (Failed, u64)>
-    requires connected { S.is_connected station.old ≡ true }
+    requires connected { (S.told station.old).connected ≡ true }
     requires room { 0 < length piece.old }
-    ensures takes { IsTrue S.tells →
-        IfOk result (λ left. TakesOf S.connections S.readings station.old station.new missing
-        left) }
+    ensures takes { IsTrue S.tells → (state : State) →
+        IfOk result (λ left. TakesOf (S.told station.old) (S.told station.new) state missing left
+        nothing) }
     ensures within { IfOk result (λ left. left ≤ missing) }
-    ensures end { IsTrue S.tells →
-        IfOk result (λ left. 0 < left → NoneComing S.connections station.new) }
-    ensures failed { IsTrue S.tells →
-        IfErr result (λ e. TakesOf S.connections S.readings station.old station.new missing e.1) }
+    ensures end { IsTrue S.tells → IfOk result (λ left. 0 < left →
+        NoneComing (S.told station.new)) }
+    ensures failed { IsTrue S.tells → (state : State) →
+        IfErr result (λ e. TakesOf (S.told station.old) (S.told station.new) state missing e.1
+        receiving) }
     ensures some { IfErr result (λ e. 0 < e.1) }
-    ensures here { IsTrue S.tells →
-        OnErr result (ReceiveFailed S.connections station.old station.new) }
-    ensures none_failed { IsTrue S.tells →
-        OnOk result (NoneFailed S.connections station.old station.new) }
-    ensures connected { S.is_connected station.new ≡ true }
-    ensures cause { HasCause (S.receive_faults station.old) (S.receive_faults station.new) result }
-    ensures sends { S.send_faults station.new ≡ S.send_faults station.old }
-    ensures beside { SameBeside S.is_listening S.addresses S.folders S.to_come S.accept_faults
-        station.old station.new }
+    ensures keeps { Keeps (S.told station.old) (S.told station.new) }
+    ensures cause { OnErr result (Counts receiving (S.told station.old) (S.told station.new)) }
 {
     let mut left = missing;
     while left > 0 {

@@ -1,10 +1,10 @@
 // Finding the next head.
 ghost use Rattle.std.specs.Prelude.{◌≡◌, IsTrue, true, IfOk, OnOk, OnErr};
-ghost use Rattle.glacier_base.specs.Outside.{HasCause};
 ghost use Rattle.glacier_http.specs.Step.{IsStep};
 ghost use Rattle.glacier_http.specs.declared.head_spans.HeadStep.TheVariants as step;
 ghost use Rattle.glacier_server.specs.Finding.{IsFound};
-ghost use Rattle.glacier_server.specs.Moves.{TakesBehind, SameBeside, ReceiveFailed, NoneFailed, NoneComing};
+ghost use Rattle.glacier_server.specs.Machine.{State};
+ghost use Rattle.glacier_server.specs.Moves.{TakesBehind, nothing, receiving, NoneComing, Keeps, Counts};
 
 use crate::unread::Unread;
 use glacier_base::Failed;
@@ -21,26 +21,24 @@ pub enum Found {
 }
 
 /// Takes bytes until they begin with a head, or are found bad, or end.
+#[tactic(auto, using(crate::proofs::MoveLemmas::kept))]
 pub fn find_head<S: Station>(
     station: &mut S,
     room: &mut HeadRoom,
     unread: &mut Unread,
 ) -> Result<Found, Failed>
-    requires { S.is_connected station.old ≡ true }
+    requires { (S.told station.old).connected ≡ true }
     ensures found { IfOk result (λ found. IsFound unread.new room.new found) }
-    ensures failed { OnErr result (IsStep unread.new room.new step.Need) }
-    ensures moves { IsTrue S.tells →
-        TakesBehind S.connections S.readings station.old station.new unread.old unread.new }
-    ensures here { IsTrue S.tells →
-        OnErr result (ReceiveFailed S.connections station.old station.new) }
-    ensures none_failed { IsTrue S.tells →
-        OnOk result (NoneFailed S.connections station.old station.new) }
-    ensures end { IsTrue S.tells → result ≡ Ok Found.Ended → NoneComing S.connections station.new }
-    ensures connected { S.is_connected station.new ≡ true }
-    ensures cause { HasCause (S.receive_faults station.old) (S.receive_faults station.new) result }
-    ensures sends { S.send_faults station.new ≡ S.send_faults station.old }
-    ensures beside { SameBeside S.is_listening S.addresses S.folders S.to_come S.accept_faults
-        station.old station.new }
+    ensures need { OnErr result (IsStep unread.new room.new step.Need) }
+    ensures takes { IsTrue S.tells → (state : State) →
+        OnOk result (TakesBehind (S.told station.old) (S.told station.new) state unread.old
+        unread.new nothing) }
+    ensures failed { IsTrue S.tells → (state : State) →
+        OnErr result (TakesBehind (S.told station.old) (S.told station.new) state unread.old
+        unread.new receiving) }
+    ensures end { IsTrue S.tells → result ≡ Ok Found.Ended → NoneComing (S.told station.new) }
+    ensures keeps { Keeps (S.told station.old) (S.told station.new) }
+    ensures cause { OnErr result (Counts receiving (S.told station.old) (S.told station.new)) }
 {
     'search: loop {
         match read_head(unread.bytes(), room) {

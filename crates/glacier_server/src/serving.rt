@@ -1,8 +1,9 @@
 // The connections that come, one after another.
-ghost use Rattle.std.specs.Prelude.{◌≡◌, ◌+◌, ◌<◌, ◌≤◌, IsTrue, true, false, IfOk, IfErr, if◌then◌else◌};
+ghost use Rattle.std.specs.Prelude.{◌≡◌, [], ◌∷◌, ◌+◌, ◌<◌, ◌≤◌, IsTrue, true, false, IfOk, IfErr, if◌then◌else◌};
 ghost use Rattle.glacier_base.specs.Outside.{HasRisen};
-ghost use Rattle.glacier_server.specs.Moves.{SameNames};
-ghost use Rattle.glacier_server.specs.Serving.{Serves, Breaks, JustAccepted};
+ghost use Rattle.glacier_server.specs.Acts.{accept};
+ghost use Rattle.glacier_server.specs.Moves.{Does};
+ghost use Rattle.glacier_server.specs.Serving.{Serves, Breaks, JustAccepted, ServesOn};
 
 use crate::connection::serve_connection;
 use crate::end::ServeFault;
@@ -17,23 +18,20 @@ fn serve_accepted<S: Station>(
     store: Store,
     config: &Config,
 ) -> Result<Store, ServeFault>
-    requires { S.is_connected station.old ≡ true }
+    requires { (S.told station.old).connected ≡ true }
     ensures served { IsTrue S.tells → (old : S) →
-        JustAccepted S.connections S.readings old station.old →
-        S.to_come old ≡ 1 + S.to_come station.old →
-        IfOk result (λ after. Serves S.connections S.readings S.to_come config.now old station.new
-        store after 1) }
+        JustAccepted (S.told old) (S.told station.old) →
+        Does (S.told old) (S.told station.old) store store (accept ∷ []) →
+        (S.told old).listener.to_come ≡ 1 + (S.told station.old).listener.to_come →
+        IfOk result (λ after. Serves config.now (S.told old) (S.told station.new) store after 1) }
     ensures broken { IsTrue S.tells → (old : S) →
-        JustAccepted S.connections S.readings old station.old →
-        IfErr result (λ fault. Breaks S.connections S.readings config.now old station.new store
-        1 fault) }
+        JustAccepted (S.told old) (S.told station.old) →
+        Does (S.told old) (S.told station.old) store store (accept ∷ []) →
+        IfErr result (λ fault. Breaks config.now (S.told old) (S.told station.new) store 1 fault) }
     ensures fault { IfErr result (λ fault. fault ≡ ServeFault.Memory) }
-    ensures closed { S.is_connected station.new ≡ false }
-    ensures listening { S.is_listening station.new ≡ S.is_listening station.old }
-    ensures names { SameNames S.addresses S.folders station.old station.new }
-    ensures accepts { S.accept_faults station.new ≡ S.accept_faults station.old }
-    ensures receives { S.receive_faults station.old ≤ S.receive_faults station.new }
-    ensures sends { S.send_faults station.old ≤ S.send_faults station.new }
+    ensures kept { (S.told station.old).listener.listening ≡ true →
+        ServesOn (S.told station.old) (S.told station.new) }
+    ensures accepts { (S.told station.new).listener.faults ≡ (S.told station.old).listener.faults }
 {
     match serve_connection(alloc, station, store, config) {
         Ok((_, after)) => {
@@ -54,23 +52,19 @@ fn serve_next<S: Station>(
     store: Store,
     config: &Config,
 ) -> Result<(bool, Store), ServeFault>
-    requires listening { S.is_listening station.old ≡ true }
-    requires free { S.is_connected station.old ≡ false }
+    requires listening { (S.told station.old).listener.listening ≡ true }
+    requires free { (S.told station.old).connected ≡ false }
     ensures served { IsTrue S.tells →
-        IfOk result (λ r. Serves S.connections S.readings S.to_come config.now station.old
-        station.new store r.1 (if r.0 then 1 else 0)) }
+        IfOk result (λ r. Serves config.now (S.told station.old) (S.told station.new) store r.1 (if
+        r.0 then 1 else 0)) }
     ensures broken { IsTrue S.tells →
-        IfErr result (λ fault. Breaks S.connections S.readings config.now station.old station.new
-        store 1 fault) }
-    ensures none { IsTrue S.tells → IfOk result (λ r. r.0 ≡ false → S.to_come station.new ≡ 0) }
-    ensures accept { IfErr result (λ fault. fault ≡ ServeFault.Accept →
-        HasRisen (S.accept_faults station.old) (S.accept_faults station.new)) }
-    ensures accepts { S.accept_faults station.old ≤ S.accept_faults station.new }
-    ensures free { S.is_connected station.new ≡ false }
-    ensures listening { S.is_listening station.new ≡ true }
-    ensures names { SameNames S.addresses S.folders station.old station.new }
-    ensures receives { S.receive_faults station.old ≤ S.receive_faults station.new }
-    ensures sends { S.send_faults station.old ≤ S.send_faults station.new }
+        IfErr result (λ fault. Breaks config.now (S.told station.old) (S.told station.new) store 1
+        fault) }
+    ensures none { IsTrue S.tells →
+        IfOk result (λ r. r.0 ≡ false → (S.told station.new).listener.to_come ≡ 0) }
+    ensures kept { ServesOn (S.told station.old) (S.told station.new) }
+    ensures cause { IfErr result (λ fault. fault ≡ ServeFault.Accept →
+        HasRisen (S.told station.old).listener.faults (S.told station.new).listener.faults) }
 {
     match station.accept() {
         Ok(true) => match serve_accepted(alloc, station, store, config) {
@@ -84,6 +78,7 @@ fn serve_next<S: Station>(
 
 /// Serves so many connections, one after another, or all that come where they are fewer. It answers
 /// how many it served. A connection on which a call fails ends alone.
+#[tactic(auto, using(crate::proofs::ServingLemmas::on_then))]
 pub fn serve<S: Station>(
     alloc: Global,
     station: &mut S,
@@ -91,25 +86,20 @@ pub fn serve<S: Station>(
     config: &Config,
     connections: u64,
 ) -> Result<(u64, Store), ServeFault>
-    requires listening { S.is_listening station.old ≡ true }
-    requires free { S.is_connected station.old ≡ false }
+    requires listening { (S.told station.old).listener.listening ≡ true }
+    requires free { (S.told station.old).connected ≡ false }
     ensures served { IsTrue S.tells →
-        IfOk result (λ r. Serves S.connections S.readings S.to_come config.now station.old
-        station.new store r.1 r.0) }
+        IfOk result (λ r. Serves config.now (S.told station.old) (S.told station.new) store r.1
+        r.0) }
     ensures broken { IsTrue S.tells →
-        IfErr result (λ fault. Breaks S.connections S.readings config.now station.old station.new
-        store connections fault) }
+        IfErr result (λ fault. Breaks config.now (S.told station.old) (S.told station.new) store
+        connections fault) }
     ensures most { IfOk result (λ r. r.0 ≤ connections) }
     ensures fewer { IsTrue S.tells →
-        IfOk result (λ r. r.0 < connections → S.to_come station.new ≡ 0) }
-    ensures accept { IfErr result (λ fault. fault ≡ ServeFault.Accept →
-        HasRisen (S.accept_faults station.old) (S.accept_faults station.new)) }
-    ensures accepts { S.accept_faults station.old ≤ S.accept_faults station.new }
-    ensures free { S.is_connected station.new ≡ false }
-    ensures listening { S.is_listening station.new ≡ true }
-    ensures names { SameNames S.addresses S.folders station.old station.new }
-    ensures receives { S.receive_faults station.old ≤ S.receive_faults station.new }
-    ensures sends { S.send_faults station.old ≤ S.send_faults station.new }
+        IfOk result (λ r. r.0 < connections → (S.told station.new).listener.to_come ≡ 0) }
+    ensures kept { ServesOn (S.told station.old) (S.told station.new) }
+    ensures cause { IfErr result (λ fault. fault ≡ ServeFault.Accept →
+        HasRisen (S.told station.old).listener.faults (S.told station.new).listener.faults) }
 {
     let mut store = store;
     let mut count = 0;

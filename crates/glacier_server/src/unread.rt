@@ -1,7 +1,7 @@
 // The bytes that were taken and not yet used.
 ghost use Rattle.std.specs.Prelude.{◌≡◌, ◌<◌, ◌≤◌, ◌-◌, [], ℕ, List, IsTrue, length, take, drop, true, false, IfOk, OnOk, OnErr};
-ghost use Rattle.glacier_base.specs.Outside.{HasCause};
-ghost use Rattle.glacier_server.specs.Moves.{Moves, TakesBehind, SameBeside, ReceiveFailed, NoneFailed, NoneComing};
+ghost use Rattle.glacier_server.specs.Machine.{State};
+ghost use Rattle.glacier_server.specs.Moves.{Moves, nothing, receiving, TakesBehind, NoneComing, Keeps, Counts};
 
 use crate::moves::receive;
 use glacier_base::{Failed, Memory};
@@ -40,25 +40,19 @@ fn move_front(buffer: &mut [u8], start: usize, end: usize)
 
 /// Fills the buffer from `end` on.
 fn receive_at<S: Station>(station: &mut S, buffer: &mut [u8], end: usize) -> Result<usize, Failed>
-    requires connected { S.is_connected station.old ≡ true }
+    requires connected { (S.told station.old).connected ≡ true }
     requires room { end < length buffer.old }
     ensures within { IfOk result (λ n. n ≤ length buffer.old - end) }
     ensures before { take end buffer.new ≡ take end buffer.old }
-    ensures takes { IsTrue S.tells →
-        IfOk result (λ n. Moves S.connections S.readings station.old station.new
-        (take n (drop end buffer.new)) [] []) }
-    ensures failed { IsTrue S.tells →
-        OnErr result (Moves S.connections S.readings station.old station.new [] [] []) }
-    ensures here { IsTrue S.tells →
-        OnErr result (ReceiveFailed S.connections station.old station.new) }
-    ensures none_failed { IsTrue S.tells →
-        OnOk result (NoneFailed S.connections station.old station.new) }
-    ensures end { IsTrue S.tells → result ≡ Ok 0 → NoneComing S.connections station.new }
-    ensures connected { S.is_connected station.new ≡ true }
-    ensures cause { HasCause (S.receive_faults station.old) (S.receive_faults station.new) result }
-    ensures sends { S.send_faults station.new ≡ S.send_faults station.old }
-    ensures beside { SameBeside S.is_listening S.addresses S.folders S.to_come S.accept_faults
-        station.old station.new }
+    ensures takes { IsTrue S.tells → (state : State) →
+        IfOk result (λ n. Moves (S.told station.old) (S.told station.new) state state (take n (drop
+        end buffer.new)) [] [] nothing) }
+    ensures end { IsTrue S.tells → result ≡ Ok 0 → NoneComing (S.told station.new) }
+    ensures failed { IsTrue S.tells → (state : State) →
+        OnErr result (Moves (S.told station.old) (S.told station.new) state state [] [] []
+        receiving) }
+    ensures keeps { Keeps (S.told station.old) (S.told station.new) }
+    ensures cause { OnErr result (Counts receiving (S.told station.old) (S.told station.new)) }
 {
     receive(station, &mut buffer[end..])
 }
@@ -70,27 +64,21 @@ fn refill<S: Station>(
     start: usize,
     end: usize,
 ) -> Result<usize, Failed>
-    requires connected { S.is_connected station.old ≡ true }
+    requires connected { (S.told station.old).connected ≡ true }
     requires order { start ≤ end }
     requires within { end ≤ length buffer.old }
     requires room { end - start < length buffer.old }
     ensures within { IfOk result (λ n. n ≤ length buffer.old - (end - start)) }
     ensures kept { take (end - start) buffer.new ≡ drop start (take end buffer.old) }
-    ensures takes { IsTrue S.tells →
-        IfOk result (λ n. Moves S.connections S.readings station.old station.new
-        (take n (drop (end - start) buffer.new)) [] []) }
-    ensures failed { IsTrue S.tells →
-        OnErr result (Moves S.connections S.readings station.old station.new [] [] []) }
-    ensures here { IsTrue S.tells →
-        OnErr result (ReceiveFailed S.connections station.old station.new) }
-    ensures none_failed { IsTrue S.tells →
-        OnOk result (NoneFailed S.connections station.old station.new) }
-    ensures end { IsTrue S.tells → result ≡ Ok 0 → NoneComing S.connections station.new }
-    ensures connected { S.is_connected station.new ≡ true }
-    ensures cause { HasCause (S.receive_faults station.old) (S.receive_faults station.new) result }
-    ensures sends { S.send_faults station.new ≡ S.send_faults station.old }
-    ensures beside { SameBeside S.is_listening S.addresses S.folders S.to_come S.accept_faults
-        station.old station.new }
+    ensures takes { IsTrue S.tells → (state : State) →
+        IfOk result (λ n. Moves (S.told station.old) (S.told station.new) state state (take n (drop
+        (end - start) buffer.new)) [] [] nothing) }
+    ensures end { IsTrue S.tells → result ≡ Ok 0 → NoneComing (S.told station.new) }
+    ensures failed { IsTrue S.tells → (state : State) →
+        OnErr result (Moves (S.told station.old) (S.told station.new) state state [] [] []
+        receiving) }
+    ensures keeps { Keeps (S.told station.old) (S.told station.new) }
+    ensures cause { OnErr result (Counts receiving (S.told station.old) (S.told station.new)) }
 {
     move_front(buffer, start, end);
     receive_at(station, buffer, end - start)
@@ -134,27 +122,20 @@ impl Unread {
 
     /// Takes more bytes. It answers whether any came: none do at the end of the input.
     pub fn fill<S: Station>(&mut self, station: &mut S) -> Result<bool, Failed>
-        requires connected { S.is_connected station.old ≡ true }
+        requires connected { (S.told station.old).connected ≡ true }
         requires room { length self.old < 16384 }
-        ensures takes { IsTrue S.tells →
-            IfOk result (λ some. TakesBehind S.connections S.readings station.old station.new
-            self.old self.new) }
+        ensures takes { IsTrue S.tells → (state : State) →
+            OnOk result (TakesBehind (S.told station.old) (S.told station.new) state self.old
+            self.new nothing) }
         ensures more { result ≡ Ok true → length self.old < length self.new }
         ensures none { result ≡ Ok false → self.new ≡ self.old }
-        ensures end { IsTrue S.tells → result ≡ Ok false → NoneComing S.connections station.new }
+        ensures end { IsTrue S.tells → result ≡ Ok false → NoneComing (S.told station.new) }
         ensures same { OnErr result (self.new ≡ self.old) }
-        ensures failed { IsTrue S.tells →
-            OnErr result (Moves S.connections S.readings station.old station.new [] [] []) }
-        ensures here { IsTrue S.tells →
-            OnErr result (ReceiveFailed S.connections station.old station.new) }
-        ensures none_failed { IsTrue S.tells →
-            OnOk result (NoneFailed S.connections station.old station.new) }
-        ensures connected { S.is_connected station.new ≡ true }
-        ensures cause { HasCause (S.receive_faults station.old) (S.receive_faults station.new)
-            result }
-        ensures sends { S.send_faults station.new ≡ S.send_faults station.old }
-        ensures beside { SameBeside S.is_listening S.addresses S.folders S.to_come S.accept_faults
-            station.old station.new }
+        ensures failed { IsTrue S.tells → (state : State) →
+            OnErr result (Moves (S.told station.old) (S.told station.new) state state [] [] []
+            receiving) }
+        ensures keeps { Keeps (S.told station.old) (S.told station.new) }
+        ensures cause { OnErr result (Counts receiving (S.told station.old) (S.told station.new)) }
     {
         match refill(station, &mut self.buffer, self.start, self.end) {
             Ok(count) => {

@@ -14,47 +14,36 @@ send_reply-requires-clause-good g c = good_of c.args.desk.now.unread c.args.desk
 
 pub returns-in-Err-clause-turn : goal.returns-in-Err-clause-turn
 returns-in-Err-clause-turn g c t =
-    body_failed g.S.Station.connections g.S.Station.readings c.args.config.now c.args.count c.args.desk.now.unread c.args.desk.now.head c.args.spans.now
-    c.extent_of-extent.result.used c.extent_of-extent.result.left c.now-reading.result c.args.store.now c.requires.good
+    body_failed _ _ _ c.args.desk.now.head _ _ _ _ c.requires.good
     (extends_by _ _ _ _ _ c.count-length.ensures.same c.extent_of-extent.ensures.used c.extent_of-extent.ensures.left)
-    c.args.station.now c.now-reading.new.station c.take_rest.new.station (c.now-reading.ensures.reads t) _
-    (c.in-Err.ensures.failed t) c.in-Err.ensures.some _
+    (c.now-reading.ensures.reads t c.args.store.now) (c.in-Err.ensures.failed t c.args.store.now) c.in-Err.ensures.some _
 
 pub returns-then-left-gt0-clause-turn : goal.returns-then-left-gt0-clause-turn
 returns-then-left-gt0-clause-turn g c t =
-    body_cut g.S.Station.connections g.S.Station.readings c.args.config.now c.args.count c.args.desk.now.unread c.args.desk.now.head c.args.spans.now
-    c.extent_of-extent.result.used c.extent_of-extent.result.left c.now-reading.result c.args.store.now c.requires.good
+    body_cut _ _ _ c.args.desk.now.head _ _ _ _ c.requires.good
     (extends_by _ _ _ _ _ c.count-length.ensures.same c.extent_of-extent.ensures.used c.extent_of-extent.ensures.left)
-    c.args.station.now c.now-reading.new.station c.take_rest.new.station (c.now-reading.ensures.reads t) _
-    (c.in-Ok.ensures.takes t) c.if-left-gt0.true (c.in-Ok.ensures.end t c.if-left-gt0.true) _ c.count-length.ensures.same _
+    (c.now-reading.ensures.reads t c.args.store.now) (c.in-Ok.ensures.takes t c.args.store.now) c.if-left-gt0.true (c.in-Ok.ensures.end t c.if-left-gt0.true) _ c.count-length.ensures.same _
 
 pub returns-in-Ok-true-clause-turn : goal.returns-in-Ok-true-clause-turn
 returns-in-Ok-true-clause-turn g c t =
     let flag : c.is_some.result ≡ is_some c.good_end-end.result = search rules in
-    reply_sent g.S.Station.connections g.S.Station.readings c.args.config.now c.args.count c.args.desk.now.unread c.args.desk.now.head c.args.spans.now
-    c.extent_of-extent.result.used c.extent_of-extent.result.left c.now-reading.result c.args.store.now c.requires.good
+    reply_sent _ _ _ c.args.desk.now.head _ _ _ _ c.requires.good
     (extends_by _ _ _ _ _ c.count-length.ensures.same c.extent_of-extent.ensures.used c.extent_of-extent.ensures.left)
-    c.args.station.now c.now-reading.new.station c.take_rest.new.station (c.now-reading.ensures.reads t) _
-    (c.in-Ok.ensures.takes t) (omega (arith, c.if-left-gt0.false)) c.good_end-end.result c.good_end-end.ensures.end
-    c.send_reply.new.station c.send_reply.new.store c.is_some.result flag c.in-Ok-true.ensures.store
-    _ (ap (λ (b : Bool). Ok b) c.in-Ok-true.field-0-test) (c.in-Ok-true.ensures.sent t) _ c.skip.ensures
+    (c.now-reading.ensures.reads t c.args.store.now) (c.in-Ok.ensures.takes t c.args.store.now) (omega (arith, c.if-left-gt0.false)) _ c.good_end-end.ensures.end c.good_end-end.ensures.of_none
+    _ _ flag _ c.in-Ok-true.ensures.store _ (ap (λ (b : Bool). Ok b) c.in-Ok-true.field-0-test) (c.in-Ok-true.ensures.sent t) c.skip.ensures
 
 pub returns-in-Ok-false-clause-turn : goal.returns-in-Ok-false-clause-turn
 returns-in-Ok-false-clause-turn g c t =
     let flag : c.is_some.result ≡ is_some c.good_end-end.result = search rules in
-    reply_unsent g.S.Station.connections g.S.Station.readings c.args.config.now c.args.count c.args.desk.now.unread c.args.desk.now.head c.args.spans.now
-    c.extent_of-extent.result.used c.extent_of-extent.result.left c.now-reading.result c.args.store.now c.requires.good
+    reply_unsent _ _ _ c.args.desk.now.head _ _ _ _ c.requires.good
     (extends_by _ _ _ _ _ c.count-length.ensures.same c.extent_of-extent.ensures.used c.extent_of-extent.ensures.left)
-    c.args.station.now c.now-reading.new.station c.take_rest.new.station (c.now-reading.ensures.reads t) _
-    (c.in-Ok.ensures.takes t) (omega (arith, c.if-left-gt0.false)) c.good_end-end.result c.good_end-end.ensures.end
-    c.send_reply.new.station c.send_reply.new.store c.is_some.result flag c.in-Ok-false.ensures.store
-    _ (ap (λ (b : Bool). Ok b) c.in-Ok-false.field-0-test) (c.in-Ok-false.ensures.failed t) _
+    (c.now-reading.ensures.reads t c.args.store.now) (c.in-Ok.ensures.takes t c.args.store.now) (omega (arith, c.if-left-gt0.false)) _ c.good_end-end.ensures.end c.good_end-end.ensures.of_none
+    _ _ flag _ c.in-Ok-false.ensures.store _ (ap (λ (b : Bool). Ok b) c.in-Ok-false.field-0-test) (c.in-Ok-false.ensures.failed t)
 
-pub returns-in-Err-send_reply-clause-memory : goal.returns-in-Err-send_reply-clause-memory
-returns-in-Err-send_reply-clause-memory g c t =
-    reply_unmade g.S.Station.connections g.S.Station.readings c.args.config.now c.args.count c.args.desk.now.unread c.args.desk.now.head c.args.spans.now
-    c.extent_of-extent.result.used c.extent_of-extent.result.left c.now-reading.result c.args.store.now c.requires.good
+pub returns-in-Err-send_reply-clause-broken : goal.returns-in-Err-send_reply-clause-broken
+returns-in-Err-send_reply-clause-broken g c t =
+    let flag : c.is_some.result ≡ is_some c.good_end-end.result = search rules in
+    reply_unmade _ _ _ c.args.desk.now.head _ _ _ _ c.requires.good
     (extends_by _ _ _ _ _ c.count-length.ensures.same c.extent_of-extent.ensures.used c.extent_of-extent.ensures.left)
-    c.args.station.now c.now-reading.new.station c.take_rest.new.station (c.now-reading.ensures.reads t) _
-    (c.in-Ok.ensures.takes t) (omega (arith, c.if-left-gt0.false)) c.good_end-end.result c.good_end-end.ensures.end
-    c.send_reply.new.station (c.in-Err-send_reply.ensures.memory t)
+    (c.now-reading.ensures.reads t c.args.store.now) (c.in-Ok.ensures.takes t c.args.store.now) (omega (arith, c.if-left-gt0.false)) _ c.good_end-end.ensures.end c.good_end-end.ensures.of_none
+    _ _ flag (λ h behind body reads size same. (0, _, c.in-Err-send_reply.ensures.broken t))

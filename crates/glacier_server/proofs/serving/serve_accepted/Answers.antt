@@ -1,18 +1,20 @@
-use Rattle.std.proofs.Common.{◌∙◌, ◌+◌, ap, sym, ℕ}
+use Rattle.std.proofs.Common.{◌∙◌, ◌+◌, ap, sym, subst}
+use Rattle.glacier_disk.specs.Told.{Listener}
+use Rattle.glacier_server.specs.declared.end.ServeFault.{ServeFault}
+use Rattle.glacier_server.specs.Serving.{Breaks}
 use Rattle.glacier_server.proofs.ServingLemmas.{serves_one, breaks_one}
 use Rattle.glacier_server.proofs.serving.serve_accepted.Goals as goal
 
 pub returns-in-Ok-clause-served : goal.returns-in-Ok-clause-served
-returns-in-Ok-clause-served g c t old opens come =
-    let done = c.serve_connection.new.station in
-    serves_one g.S.Station.connections g.S.Station.readings g.S.Station.to_come c.args.config.now old c.args.station.now done c.hang_up.new.self c.args.store
-    opens (g.met.S.Station.connected_last t done c.serve_connection.ensures.connected) c.hang_up.ensures.told.2 c.hang_up.ensures.told.3
-    _ _ (c.in-Ok.ensures.served t) (c.in-Ok.ensures.read_here t) (c.in-Ok.ensures.send_here t) (c.in-Ok.ensures.none_failed t)
-    (come ∙ ap (λ (n : ℕ). 1 + n) (sym (c.hang_up.ensures.told.1 ∙ c.serve_connection.ensures.beside.3)))
+returns-in-Ok-clause-served g c t old opens came come =
+    let last = (g.met.S.Disk.lawful t c.serve_connection.new.station).connected_last c.serve_connection.ensures.keeps.connected in
+    let same = c.hang_up.ensures.call.listener ∙ c.serve_connection.ensures.keeps.listener in
+    serves_one (g.S.Disk.told old) (g.S.Disk.told c.args.station.now) (g.S.Disk.told c.serve_connection.new.station) (g.S.Disk.told c.hang_up.new.self)
+    opens last c.hang_up.ensures.call (c.in-Ok.ensures.served t) came (come ∙ ap (λ (l : Listener). 1 + l.to_come) (sym same))
 
 pub returns-in-Err-clause-broken : goal.returns-in-Err-clause-broken
-returns-in-Err-clause-broken g c t old opens =
-    let done = c.serve_connection.new.station in
-    breaks_one g.S.Station.connections g.S.Station.readings g.S.Station.to_come c.args.config.now old c.args.station.now done c.hang_up-in-Err.new.self c.args.store
-    opens (g.met.S.Station.connected_last t done c.serve_connection.ensures.connected) c.hang_up-in-Err.ensures.told.2 c.hang_up-in-Err.ensures.told.3
-    _ c.in-Err.ensures.fault (c.in-Err.ensures.memory t)
+returns-in-Err-clause-broken g c t old opens came =
+    let last = (g.met.S.Disk.lawful t c.serve_connection.new.station).connected_last c.serve_connection.ensures.keeps.connected in
+    subst (λ (f : ServeFault). Breaks c.args.config.now (g.S.Disk.told old) (g.S.Disk.told c.hang_up-in-Err.new.self) c.args.store 1 f) (sym c.in-Err.ensures.fault)
+    (breaks_one (g.S.Disk.told old) (g.S.Disk.told c.args.station.now) (g.S.Disk.told c.serve_connection.new.station) (g.S.Disk.told c.hang_up-in-Err.new.self)
+    opens last c.hang_up-in-Err.ensures.call (c.in-Err.ensures.broken t) came)
