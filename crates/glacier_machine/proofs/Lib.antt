@@ -1,4 +1,4 @@
 pub mod Cuts
-pub mod Dates
 pub mod Floats
+pub mod IsoAscii
 pub mod NameLemmas

@@ -21,18 +21,18 @@ pub record Step : Type 0 where
   pub state : AccountState
 
 -- nothing changes
-abbrev pub tells : AccountState → Reply → Step
-tells before reply = record { answer = record { reply = reply; change = no_change }; state = before }
+abbrev pub only_replies : AccountState → Reply → Step
+only_replies before reply = record { answer = record { reply = reply; change = no_change }; state = before }
 
 -- a row of an operation that may change the account, with the reply where it is accepted
 abbrev pub by_row : AccountState → Row Change → Reply → Step
 by_row before (Ok done) reply = record { answer = record { reply = reply; change = done.1 }; state = done.0 }
-by_row before (Err refusal) reply = tells before (refused refusal)
+by_row before (Err refusal) reply = only_replies before (refused refusal)
 
 -- a question, with the reply to what it finds
 abbrev pub by_look : {X : Type 0} → AccountState → Result X Refusal → (X → Reply) → Step
-by_look before (Ok x) reply = tells before (reply x)
-by_look before (Err refusal) reply = tells before (refused refusal)
+by_look before (Ok x) reply = only_replies before (reply x)
+by_look before (Err refusal) reply = only_replies before (refused refusal)
 
 -- the step of an action at the moment m
 abbrev pub step_of : Rules → ℕ → Action → AccountState → Step
