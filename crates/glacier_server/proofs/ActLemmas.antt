@@ -3,7 +3,7 @@ use Rattle.std.proofs.Common.{◌≡◌, ℕ, List, [], ◌∷◌, ◌++◌, ref
 use Rattle.glacier_disk.specs.Network.{sent_on, on_last}
 use Rattle.glacier_disk.specs.Told.{Told}
 use Rattle.glacier_disk.proofs.Connections.{on_last-nil}
-use Rattle.glacier_machine.specs.Runs.{Happened, after_all, after_happened}
+use Rattle.glacier_machine.specs.Outcomes.{AccountEvent, after_all, after_account_event}
 use Rattle.glacier_server.specs.Acts.{Act, accept, send, keep, sends, keeps, bytes_of, events_in, sent_by, after_acts}
 use Rattle.glacier_server.specs.Machine.{State}
 use Rattle.glacier_server.specs.Moves.{Does}
@@ -19,11 +19,11 @@ pub events_in-append : (first more : List Act) → events_in (first ++ more) ≡
 events_in-append [] more = refl
 events_in-append (accept ∷ first) more = events_in-append first more
 events_in-append (send b ∷ first) more = events_in-append first more
-events_in-append (keep h ∷ first) more = ap (λ (l : List Happened). h ∷ l) (events_in-append first more)
+events_in-append (keep h ∷ first) more = ap (λ (l : List AccountEvent). h ∷ l) (events_in-append first more)
 
-pub after_append : (state : State) (first more : List Happened) → after_all state (first ++ more) ≡ after_all (after_all state first) more
+pub after_append : (state : State) (first more : List AccountEvent) → after_all state (first ++ more) ≡ after_all (after_all state first) more
 after_append state [] more = refl
-after_append state (h ∷ first) more = after_append (after_happened state h) first more
+after_append state (h ∷ first) more = after_append (after_account_event state h) first more
 
 pub after_acts-append : (state : State) (first more : List Act) → after_acts state (first ++ more) ≡ after_acts (after_acts state first) more
 after_acts-append state first more = ap (after_all state) (events_in-append first more) ∙ after_append state (events_in first) (events_in more)
@@ -43,15 +43,15 @@ pub events_in-sends : (bytes : List ℕ) → events_in (sends bytes) ≡ []
 events_in-sends [] = refl
 events_in-sends (b ∷ bytes) = events_in-sends bytes
 
-pub bytes_of-keeps : (events : List Happened) → bytes_of (keeps events) ≡ []
+pub bytes_of-keeps : (events : List AccountEvent) → bytes_of (keeps events) ≡ []
 bytes_of-keeps [] = refl
 bytes_of-keeps (h ∷ events) = bytes_of-keeps events
 
-pub events_in-keeps : (events : List Happened) → events_in (keeps events) ≡ events
+pub events_in-keeps : (events : List AccountEvent) → events_in (keeps events) ≡ events
 events_in-keeps [] = refl
-events_in-keeps (h ∷ events) = ap (λ (l : List Happened). h ∷ l) (events_in-keeps events)
+events_in-keeps (h ∷ events) = ap (λ (l : List AccountEvent). h ∷ l) (events_in-keeps events)
 
-pub sent_by-keeps : (events : List Happened) (sent : List (List ℕ)) → sent_by (keeps events) sent ≡ sent
+pub sent_by-keeps : (events : List AccountEvent) (sent : List (List ℕ)) → sent_by (keeps events) sent ≡ sent
 sent_by-keeps [] sent = refl
 sent_by-keeps (h ∷ events) sent = sent_by-keeps events sent
 
@@ -68,7 +68,7 @@ sent_by-sends (b ∷ bytes) sent = sent_by-sends bytes (on_last (b ∷ []) sent)
 pub after-sends : (state : State) (bytes : List ℕ) → after_acts state (sends bytes) ≡ state
 after-sends state bytes = ap (after_all state) (events_in-sends bytes)
 
-pub after-keeps : (state : State) (events : List Happened) → after_acts state (keeps events) ≡ after_all state events
+pub after-keeps : (state : State) (events : List AccountEvent) → after_acts state (keeps events) ≡ after_all state events
 after-keeps state events = ap (after_all state) (events_in-keeps events)
 
 -- no call at all
@@ -101,7 +101,7 @@ pub does_accept : {old new : Told} (state : State) → sent_on new.connections �
 does_accept state more = record { all_sent = more; after_is = refl }
 
 -- events are kept, and no call is made
-pub does_keep : (s : Told) (state after : State) (events : List Happened) → after ≡ after_all state events → Does s s state after (keeps events)
+pub does_keep : (s : Told) (state after : State) (events : List AccountEvent) → after ≡ after_all state events → Does s s state after (keeps events)
 does_keep s state after events is = record {
   all_sent = sym (sent_by-keeps events (sent_on s.connections));
   after_is = is ∙ sym (after-keeps state events);

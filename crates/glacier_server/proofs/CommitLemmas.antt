@@ -4,7 +4,7 @@ use Rattle.std.proofs.lemmas.List.{take-map}
 use Rattle.std.proofs.Math.Seq.{take-append-add}
 use Rattle.glacier_disk.specs.Told.{Told}
 use Rattle.glacier_http.specs.Messages.{Message}
-use Rattle.glacier_server.specs.declared.config.Config.{Config}
+use Rattle.glacier_machine.specs.declared.config.Config.{Config}
 use Rattle.glacier_server.specs.Acts.{Act, send, sends, keeps}
 use Rattle.glacier_server.specs.Out.{done}
 use Rattle.glacier_server.specs.Machine.{State, reply, after, happened}

@@ -5,8 +5,8 @@ use Rattle.std.proofs.lemmas.List.{take-append-le}
 use Rattle.std.proofs.Math.Seq.{take-append-add}
 use Rattle.std.specs.Option.{is_some}
 use Rattle.glacier_http.specs.Messages.{Message, last_end}
-use Rattle.glacier_machine.specs.Runs.{Happened}
-use Rattle.glacier_server.specs.declared.config.Config.{Config}
+use Rattle.glacier_machine.specs.Outcomes.{AccountEvent}
+use Rattle.glacier_machine.specs.declared.config.Config.{Config}
 use Rattle.glacier_server.specs.Acts.{Act, sends, keeps, bytes_of, events_in}
 use Rattle.glacier_server.specs.Machine.{reply, after, happened}
 use Rattle.glacier_server.specs.Out.{told, run, out, interim}
@@ -33,7 +33,7 @@ fewer_bytes k acts =
 
 -- a byte more than the first acts have stands behind all of them
 past_all : (first others : List Act) (k : ℕ) → length (bytes_of first) < length (bytes_of (take k (first ++ others)))
-    → (more : List Happened) × (events_in (take k (first ++ others)) ≡ events_in first ++ more)
+    → (more : List AccountEvent) × (events_in (take k (first ++ others)) ≡ events_in first ++ more)
 past_all first others k some = elim (cases_lt k (length first)) [
   | inl few ↦
       let same : take k (first ++ others) ≡ take k first = take-append-le k first others (omega (arith, few)) in
@@ -85,11 +85,11 @@ module _ (config : Config) (state : State) (before behind : List Message) (m : M
       ∙ length-append (bytes_of (out config 0 state before readings)) (interim m)
 
   pub events_first : length (bytes_of (out config 0 state before readings)) + length (interim m) < length (bytes_of (take k (out config 0 state (before ++ m ∷ behind) (readings ++ r ∷ more))))
-      → (others : List Happened) × (events_in (take k (out config 0 state (before ++ m ∷ behind) (readings ++ r ∷ more))) ≡ events_in (out config 0 state (before ++ m ∷ []) (readings ++ r ∷ [])) ++ others)
+      → (others : List AccountEvent) × (events_in (take k (out config 0 state (before ++ m ∷ behind) (readings ++ r ∷ more))) ≡ events_in (out config 0 state (before ++ m ∷ []) (readings ++ r ∷ [])) ++ others)
   unfolding text
   events_first some =
       let same = all_is.1 in
       let past = past_all first all_is.0 k (omega (arith, some, bytes_are, ap (λ (l : List Act). length (bytes_of (take k l))) same)) in
       let one : events_in (out config 0 state (before ++ m ∷ []) (readings ++ r ∷ [])) ≡ events_in first =
-      ap events_in one_is ∙ events_in-append first text ∙ ap (λ (l : List Happened). events_in first ++ l) (events_in-sends (reply config mid m r (is_some (last_end (0 + length before) m)))) ∙ append-nil _ in
-      (past.0, ap (λ (l : List Act). events_in (take k l)) same ∙ past.1 ∙ ap (λ (l : List Happened). l ++ past.0) (sym one))
+      ap events_in one_is ∙ events_in-append first text ∙ ap (λ (l : List AccountEvent). events_in first ++ l) (events_in-sends (reply config mid m r (is_some (last_end (0 + length before) m)))) ∙ append-nil _ in
+      (past.0, ap (λ (l : List Act). events_in (take k l)) same ∙ past.1 ∙ ap (λ (l : List AccountEvent). l ++ past.0) (sym one))

@@ -5,7 +5,7 @@ use Rattle.glacier_base.specs.Outside.{HasRisen}
 use Rattle.glacier_disk.specs.Network.{Connection, accepted}
 use Rattle.glacier_disk.specs.Told.{Told}
 use Rattle.glacier_server.specs.Acts.{Act, accept, bytes_of}
-use Rattle.glacier_server.specs.declared.config.Config.{Config}
+use Rattle.glacier_machine.specs.declared.config.Config.{Config}
 use Rattle.glacier_server.specs.declared.end.End.{End}
 use Rattle.glacier_server.specs.declared.end.End.TheVariants.{Closed, Cut, Refused, Bound, ReadFault, SendFault}
 use Rattle.glacier_server.specs.declared.end.ServeFault.{ServeFault}

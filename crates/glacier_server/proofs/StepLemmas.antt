@@ -6,7 +6,7 @@ use Rattle.glacier_disk.specs.Calls.{ReceiveCall, SendCall, NowCall, SendsAll, S
 use Rattle.glacier_disk.specs.Network.{Connection, OnLast, Takes, TakesNone, sent_on, on_last}
 use Rattle.glacier_disk.specs.Told.{Told}
 use Rattle.glacier_disk.proofs.Connections.{sent_same, sent_more}
-use Rattle.glacier_machine.specs.Runs.{Happened, after_all}
+use Rattle.glacier_machine.specs.Outcomes.{AccountEvent, after_all}
 use Rattle.glacier_server.specs.Acts.{Act, sends as acts, keeps as acts_of, bytes_of}
 use Rattle.glacier_server.specs.Moves.{Does, Moves, Failing, nothing, receiving, sending, breaking, Fails, current, others}
 use Rattle.glacier_server.proofs.ActLemmas.{does_quiet, does_send, does_keep, bytes_of-sends, bytes_of-keeps}
@@ -115,7 +115,7 @@ pub reads : {old new : Told} (state : State) {r : ℕ} → NowCall old new → n
 reads state call is = untouched (does_quiet state (ap sent_on call.connections)) refl is call.connections (λ c. (refl, refl))
 
 -- events are kept, and no call is made
-pub keeps_all : (s : Told) (state after : State) (events : List Happened) → after ≡ after_all state events → Moves s s state after [] (acts_of events) [] nothing
+pub keeps_all : (s : Told) (state after : State) (events : List AccountEvent) → after ≡ after_all state events → Moves s s state after [] (acts_of events) [] nothing
 keeps_all s state after events is =
     untouched (does_keep s state after events is) (bytes_of-keeps events) (sym (append-nil s.readings)) refl (λ c. (refl, refl))
 

@@ -1,19 +1,19 @@
 -- What is done at a station, step by step.
 use Rattle.std.specs.Prelude.{ℕ, List, [], ◌∷◌, ◌++◌, map}
 use Rattle.glacier_disk.specs.Network.{on_last}
-use Rattle.glacier_machine.specs.Runs.{Happened, after_all}
+use Rattle.glacier_machine.specs.Outcomes.{AccountEvent, after_all}
 use Rattle.glacier_server.specs.Machine.{State}
 
 -- a connection is accepted, a byte is sent on the last one, or an event is kept
 pub data Act : Type 0 where
   accept : Act
   send : ℕ → Act
-  keep : Happened → Act
+  keep : AccountEvent → Act
 
 abbrev pub sends : List ℕ → List Act
 sends bytes = map send bytes
 
-abbrev pub keeps : List Happened → List Act
+abbrev pub keeps : List AccountEvent → List Act
 keeps events = map keep events
 
 -- the bytes that are sent
@@ -24,7 +24,7 @@ bytes_of (send b ∷ acts) = b ∷ bytes_of acts
 bytes_of (keep h ∷ acts) = bytes_of acts
 
 -- the events that are kept
-abbrev pub events_in : List Act → List Happened
+abbrev pub events_in : List Act → List AccountEvent
 events_in [] = []
 events_in (accept ∷ acts) = events_in acts
 events_in (send b ∷ acts) = events_in acts

@@ -1,6 +1,7 @@
--- What was done on a connection for the bytes that were taken on it, and the state after it.
-use Rattle.std.specs.Prelude.{◌≡◌, ℕ, ◌≤◌, ◌⊎◌, List, [], ◌++◌, length, drop, Option, Some, None}
+-- What was done on a connection for the bytes that were taken on it.
+use Rattle.std.specs.Prelude.{◌≡◌, ℕ, ◌≤◌, ◌⊎◌, List, [], ◌∷◌, ◌++◌, length, drop, Option, Some, None}
 use Rattle.httparse.specs.Grammar.{RequestHead}
+use Rattle.glacier_disk.specs.Network.{Wait, wait_of}
 use Rattle.glacier_disk.specs.Told.{Told}
 use Rattle.glacier_http.specs.Opening.{BeginsHead}
 use Rattle.glacier_http.specs.Messages.{Message, Hears, Heard, BeginsNone, InputEnd, closed, cut, refused, bound, end_of_rest}
@@ -8,102 +9,92 @@ use Rattle.glacier_machine.specs.declared.config.Config.{Config}
 use Rattle.glacier_server.specs.declared.end.End.{End}
 use Rattle.glacier_server.specs.declared.end.End.TheVariants.{Closed, Cut, Refused, Bound, ReadFault, SendFault}
 use Rattle.glacier_server.specs.Acts.{Act}
-use Rattle.glacier_server.specs.Moves.{Moves, Failing, nothing, receiving, sending, breaking, current}
-use Rattle.glacier_server.specs.Out.{run, out, Tells}
 use Rattle.glacier_server.specs.Machine.{State}
+use Rattle.glacier_server.specs.Out.{run, out, Tells}
+use Rattle.glacier_server.specs.Session.{Session, HeldWaiting}
+use Rattle.glacier_server.specs.Transfer.{Transfer, Failing, nothing, receiving, sending, breaking, current}
 
--- these messages were run at these readings, and what is told was done, but for what is undone
-pub record Runs (config : Config) (taken : List ℕ) (acts : List Act) (moments : List ℕ) (state : State)
-    (messages : List Message) (rest : List ℕ) (last : Option InputEnd) (undone : List Act)
-    : Type 0 where
-  pub hears : Hears 0 taken messages rest last
-  pub enough : length messages ≤ length moments
+-- the messages heard in the bytes were run at these readings, and all that is told was done
+pub record Runs (config : Config) (s : Session) (last : Option InputEnd) : Type 0 where
+  pub messages : List Message
+  pub rest : List ℕ
+  pub hears : Hears 0 s.taken messages rest last
+  pub enough : length messages ≤ length s.readings
   pub interim : List Act
-  pub tells : Tells rest (drop (length messages) moments) interim
-  pub all : out config 0 state messages moments ++ interim ≡ acts ++ undone
-
--- no message is missing a reading, nor is the rest's good head
-pub record ReadAll (moments : List ℕ) (messages : List Message) (rest : List ℕ) : Type 0 where
-  pub none : BeginsNone rest
-  pub head : length moments ≡ length messages → (h : RequestHead) (more : List ℕ)
-      → ¬ (BeginsHead rest h more)
+  pub tells : Tells rest (drop (length messages) s.readings) interim
+  pub all : s.acts ≡ out config 0 s.before messages s.readings ++ interim
+  pub after_them : s.after ≡ run config s.before messages s.readings
 
 -- the last message made the end, with one reading for each message
-pub record EndsLast (config : Config) (taken : List ℕ) (acts : List Act) (moments : List ℕ) (state new : State)
-    (end : InputEnd) : Type 0 where
-  pub messages : List Message
-  pub rest : List ℕ
-  pub runs : Runs config taken acts moments state messages rest (Some end) []
-  pub each : length moments ≡ length messages
-  pub after_them : new ≡ run config state messages moments
+pub record EndsLast (config : Config) (s : Session) (end : InputEnd) : Type 0 where
+  pub runs : Runs config s (Some end)
+  pub each : length s.readings ≡ length runs.messages
 
--- no message is the last, and all that is heard was answered
-pub record Stops (config : Config) (taken : List ℕ) (acts : List Act) (moments : List ℕ) (state new : State)
-    (messages : List Message) (rest : List ℕ) : Type 0 where
-  pub runs : Runs config taken acts moments state messages rest None []
-  pub read_all : ReadAll moments messages rest
-  pub after_them : new ≡ run config state messages moments
+-- no message is the last, and all that is heard was answered: no message is missing a reading, nor is
+-- the rest's good head
+pub record Stops (config : Config) (s : Session) : Type 0 where
+  pub runs : Runs config s None
+  pub none : BeginsNone runs.rest
+  pub head : length s.readings ≡ length runs.messages → (h : RequestHead) (more : List ℕ)
+      → ¬ (BeginsHead runs.rest h more)
 
 -- the input ended, where no message was the last
-pub record EndsInput (config : Config) (taken : List ℕ) (acts : List Act) (moments coming : List ℕ) (state new : State)
-    (end : InputEnd) : Type 0 where
-  pub messages : List Message
-  pub rest : List ℕ
-  pub stops : Stops config taken acts moments state new messages rest
-  pub end_is : end ≡ end_of_rest rest
+pub record EndsInput (config : Config) (s : Session) (coming : List ℕ) (end : InputEnd) : Type 0 where
+  pub stops : Stops config s
+  pub end_is : end ≡ end_of_rest stops.runs.rest
   pub none_left : coming ≡ []
 
 -- what is to be done for these bytes, with these readings: for the messages heard in them
-pub record IsOut (config : Config) (taken moments : List ℕ) (state : State) (acts : List Act)
+pub record IsOut (config : Config) (taken readings : List ℕ) (state : State) (acts : List Act)
     : Type 0 where
   pub messages : List Message
   pub rest : List ℕ
   pub end : InputEnd
   pub heard : Heard taken messages rest end
   pub interim : List Act
-  pub tells : Tells rest (drop (length messages) moments) interim
-  pub acts_are : acts ≡ out config 0 state messages moments ++ interim
+  pub tells : Tells rest (drop (length messages) readings) interim
+  pub acts_are : acts ≡ out config 0 state messages readings ++ interim
 
 -- the same, where each of these messages has its reading
-pub record IsWholeOut (config : Config) (taken moments : List ℕ) (state : State) (acts : List Act)
+pub record IsWholeOut (config : Config) (taken readings : List ℕ) (state : State) (acts : List Act)
     : Type 0 where
-  pub is_out : IsOut config taken moments state acts
-  pub enough : length is_out.messages ≤ length moments
+  pub is_out : IsOut config taken readings state acts
+  pub enough : length is_out.messages ≤ length readings
 
 -- what was done is a first part of it
-abbrev pub IsPartOfOut : Config → List ℕ → List Act → List ℕ → State → Type 0
-IsPartOfOut config taken acts moments state =
-    (all undone : List Act) × IsOut config taken moments state all × (all ≡ acts ++ undone)
+abbrev pub IsPartOfOut : Config → Session → Type 0
+IsPartOfOut config s =
+    (all undone : List Act) × IsOut config s.taken s.readings s.before all × (all ≡ s.acts ++ undone)
 
--- these messages were run, the first of those heard, and nothing was done of a later one
-pub record RunsPart (config : Config) (taken : List ℕ) (acts : List Act) (moments : List ℕ) (state : State)
-    : Type 0 where
+-- these messages were run, the first of those heard and each at its reading: all was done for those
+-- before the last one, and a first part for that; nothing was done for a later one
+pub record AnsweredPart (config : Config) (s : Session) : Type 0 where
   pub messages : List Message
   pub rest : List ℕ
   pub last : Option InputEnd
+  pub hears : Hears 0 s.taken messages rest last
+  pub each : length s.readings ≡ length messages
   pub undone : List Act
-  pub runs : Runs config taken acts moments state messages rest last undone
+  pub all : out config 0 s.before messages s.readings ≡ s.acts ++ undone
+  pub answered : (front : List Message) (m : Message) → messages ≡ front ++ m ∷ []
+      → length (out config 0 s.before front s.readings) ≤ length s.acts
 
-abbrev pub Part : Config → List ℕ → List Act → List ℕ → State → Type 0
-Part config taken acts moments state =
-    IsPartOfOut config taken acts moments state × RunsPart config taken acts moments state
+abbrev pub Part : Config → Session → Type 0
+Part config s = IsPartOfOut config s × AnsweredPart config s
 
--- how a connection that ended so was served
-abbrev pub Served : Config → List ℕ → List Act → List ℕ → List ℕ → State → State → End → Type 0
-Served config taken acts moments coming state new Closed =
-    EndsLast config taken acts moments state new closed
-    ⊎ EndsInput config taken acts moments coming state new closed
-Served config taken acts moments coming state new (Cut n) =
-    EndsInput config taken acts moments coming state new (cut n)
-Served config taken acts moments coming state new Refused =
-    EndsLast config taken acts moments state new refused
-Served config taken acts moments coming state new Bound =
-    EndsLast config taken acts moments state new bound
-Served config taken acts moments coming state new ReadFault =
-    (messages : List Message) × (rest : List ℕ)
-    × Stops config taken acts moments state new messages rest
-Served config taken acts moments coming state new SendFault =
-    Part config taken acts moments state
+-- how a connection that ended so was served, where these bytes were still to come
+abbrev pub Served : Config → Session → List ℕ → End → Type 0
+Served config s coming Closed = EndsLast config s closed ⊎ EndsInput config s coming closed
+Served config s coming (Cut n) = EndsInput config s coming (cut n)
+Served config s coming Refused = EndsLast config s refused
+Served config s coming Bound = EndsLast config s bound
+Served config s coming ReadFault = Stops config s
+Served config s coming SendFault = Part config s
+
+-- each time that bytes were waited for, all was done that was due: what is heard in the bytes taken
+-- till then was answered, at the readings taken till then
+abbrev pub IsPrompt : Config → Wait → Session → Type 0
+IsPrompt config start s = HeldWaiting start s (Stops config)
 
 -- the call whose failure is this end, if any
 abbrev pub failing_of : End → Failing
@@ -116,17 +107,17 @@ failing_of SendFault = sending
 
 -- the last connection was served to this end
 pub record ServedLast (config : Config) (old new : Told) (state after : State) (end : End) : Type 0 where
-  pub taken : List ℕ
-  pub acts : List Act
-  pub moments : List ℕ
-  pub moves : Moves old new state after taken acts moments (failing_of end)
-  pub served : Served config taken acts moments (current new.connections).coming state after end
+  pub session : Session
+  pub starts : session.before ≡ state
+  pub leaves : session.after ≡ after
+  pub transfer : Transfer old new session (failing_of end)
+  pub served : Served config session (current new.connections).coming end
+  pub prompt : IsPrompt config (wait_of (current old.connections)) session
 
 -- a first part of what is to be done was done on the last connection
 pub record PartLast (config : Config) (old new : Told) (state : State) : Type 0 where
-  pub taken : List ℕ
-  pub acts : List Act
-  pub moments : List ℕ
-  pub after : State
-  pub moves : Moves old new state after taken acts moments breaking
-  pub part : Part config taken acts moments state
+  pub session : Session
+  pub starts : session.before ≡ state
+  pub transfer : Transfer old new session breaking
+  pub part : Part config session
+  pub prompt : IsPrompt config (wait_of (current old.connections)) session
