@@ -6,7 +6,7 @@ use Rattle.glacier_disk.proofs.Connections.{on_last-nil}
 use Rattle.glacier_machine.specs.Outcomes.{AccountEvent, after_all, after_account_event}
 use Rattle.glacier_server.specs.Acts.{Act, accept, send, keep, sends, keeps, bytes_of, events_in, sent_by, after_acts}
 use Rattle.glacier_server.specs.Machine.{State}
-use Rattle.glacier_server.specs.Moves.{Does}
+use Rattle.glacier_server.specs.Transfer.{Does}
 
 -- the parts of acts one after another
 pub bytes_of-append : (first more : List Act) → bytes_of (first ++ more) ≡ bytes_of first ++ bytes_of more
@@ -33,6 +33,10 @@ sent_by-append [] more sent = refl
 sent_by-append (accept ∷ first) more sent = sent_by-append first more (sent ++ [] ∷ [])
 sent_by-append (send b ∷ first) more sent = sent_by-append first more (on_last (b ∷ []) sent)
 sent_by-append (keep h ∷ first) more sent = sent_by-append first more sent
+
+pub sends-append : (first more : List ℕ) → sends (first ++ more) ≡ sends first ++ sends more
+sends-append [] more = refl
+sends-append (b ∷ first) more = ap (λ (l : List Act). send b ∷ l) (sends-append first more)
 
 -- bytes alone, and events alone
 pub bytes_of-sends : (bytes : List ℕ) → bytes_of (sends bytes) ≡ bytes

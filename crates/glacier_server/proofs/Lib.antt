@@ -6,15 +6,16 @@ mod ConnectionLemmas
 mod CutLemmas
 mod EventLemmas
 mod Examples
+mod ExchangeLemmas
 mod ExtentLemmas
 mod ListLemmas
 mod MessageLemmas
-mod MoveLemmas
 mod OutLemmas
 mod ReplyLemmas
 mod RunLemmas
 mod RunOneLemmas
-pub mod ServingLemmas
+mod ServingLemmas
+mod SessionLemmas
 mod StepLemmas
 mod StoreLemmas
-mod TurnLemmas
+mod TransferLemmas

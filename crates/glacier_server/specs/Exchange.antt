@@ -1,10 +1,12 @@
 -- One message more on a connection.
-use Rattle.std.specs.Prelude.{◌≡◌, ◌⊎◌, ℕ, ◌+◌, ◌==◌, Bool, if◌then◌else◌, List, [], ◌∷◌, ◌++◌, take, Option, Some, None}
+use Rattle.std.specs.Prelude.{◌≡◌, ◌⊎◌, ℕ, ◌+◌, ◌==◌, Bool, if◌then◌else◌, List, [], ◌∷◌, ◌++◌, take, Option, Some, None, Result, Ok, Err}
 use Rattle.httparse.specs.Grammar.{RequestHead}
 use Rattle.glacier_disk.specs.Network.{wait_of}
 use Rattle.glacier_disk.specs.Told.{Told}
-use Rattle.glacier_http.specs.Opening.{BeginsHead}
-use Rattle.glacier_http.specs.Messages.{Message, Begins, BeginsNone, InputEnd, closed, cut, refused, bound, most_messages, last_end, end_of_rest}
+use Rattle.glacier_http.specs.declared.bad_head.BadHead.{BadHead}
+use Rattle.glacier_http.specs.Opening.{BeginsHead, BeginsBad}
+use Rattle.glacier_http.specs.declared.limits.TheConstants.{MOST_MESSAGES}
+use Rattle.glacier_http.specs.Messages.{Message, Begins, BeginsNone, InputEnd, closed, cut, refused, bound, last_end, end_of_rest}
 use Rattle.glacier_machine.specs.declared.config.Config.{Config}
 use Rattle.glacier_server.specs.declared.end.End.{End}
 use Rattle.glacier_server.specs.declared.end.End.TheVariants.{Closed, Cut, Refused, Bound, ReadFault, SendFault}
@@ -30,12 +32,21 @@ end_for_some (Some e) = Some (end_for e)
 -- the end that a good message makes, if any: n stand before it, and it may ask for it
 abbrev pub end_of_good : ℕ → Bool → Option End
 end_of_good n closes =
-    if n + 1 == most_messages then Some Bound else if closes then Some Closed else None
+    if n + 1 == MOST_MESSAGES then Some Bound else if closes then Some Closed else None
 
 -- the call whose failure made the end, if there is one
 abbrev pub failing_at : Option End → Failing
 failing_at None = nothing
 failing_at (Some end) = failing_of end
+
+-- the same of what is answered: an error is want of memory
+abbrev pub failing_in : {E : Type 0} → Result (Option End) E → Failing
+failing_in (Ok end) = failing_at end
+failing_in (Err e) = nothing
+
+abbrev pub failing_on : {E : Type 0} → Result End E → Failing
+failing_on (Ok end) = failing_of end
+failing_on (Err e) = nothing
 
 -- where a connection stands between two messages: so many were answered, these bytes are unread,
 -- and the service has this state
@@ -46,6 +57,10 @@ pub record Standing : Type 0 where
 
 abbrev pub standing : ℕ → List ℕ → State → Standing
 standing count unread state = record { count = count; unread = unread; state = state }
+
+-- a bad head with this cause is next, behind so many messages
+abbrev pub BadStands : Standing → ℕ → BadHead → Type 0
+BadStands from count cause = (from.count ≡ count) × (rest : List ℕ) × BeginsBad from.unread cause rest
 
 -- so many messages stand before it, these bytes were there for it, of which these are left unread
 -- and behind which these are still to come, and this was done, at these readings

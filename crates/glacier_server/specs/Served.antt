@@ -1,5 +1,5 @@
 -- What was done on a connection for the bytes that were taken on it.
-use Rattle.std.specs.Prelude.{◌≡◌, ℕ, ◌≤◌, ◌⊎◌, List, [], ◌∷◌, ◌++◌, length, drop, Option, Some, None}
+use Rattle.std.specs.Prelude.{◌≡◌, ℕ, ◌≤◌, ◌⊎◌, List, [], ◌∷◌, ◌++◌, length, drop, Option, Some, None, Result, Ok, Err}
 use Rattle.httparse.specs.Grammar.{RequestHead}
 use Rattle.glacier_disk.specs.Network.{Wait, wait_of}
 use Rattle.glacier_disk.specs.Told.{Told}
@@ -104,6 +104,11 @@ failing_of Refused = nothing
 failing_of Bound = nothing
 failing_of ReadFault = receiving
 failing_of SendFault = sending
+
+-- the same of what is answered: an error is want of memory
+abbrev pub failing_to : {T E : Type 0} → Result (End × T) E → Failing
+failing_to (Ok r) = failing_of r.0
+failing_to (Err e) = nothing
 
 -- the last connection was served to this end
 pub record ServedLast (config : Config) (old new : Told) (state after : State) (end : End) : Type 0 where

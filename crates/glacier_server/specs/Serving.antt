@@ -1,5 +1,6 @@
 -- What a server does for the connections that come, one after another.
-use Rattle.std.specs.Prelude.{◌≡◌, ◌⊎◌, true, false, ℕ, ◌+◌, ◌≤◌, List, [], ◌∷◌, ◌++◌, length}
+use Rattle.std.specs.Prelude.{◌≡◌, ◌⊎◌, true, false, ℕ, ◌+◌, ◌≤◌, List, [], ◌∷◌, ◌++◌, length, Result, Ok, Err}
+use Rattle.glacier_base.specs.Outside.{one_more}
 use Rattle.glacier_disk.specs.Network.{Connection, Wait, accepted}
 use Rattle.glacier_disk.specs.Told.{Told}
 use Rattle.glacier_machine.specs.declared.config.Config.{Config}
@@ -77,11 +78,10 @@ pub record BreaksLast (config : Config) (came : List Connection) (sessions : Lis
   pub part : Part config here
   pub prompt : IsPrompt config begun here
 
--- what was served before the fault: memory may be wanting before the first connection, too
+-- what was served before the fault
 abbrev pub ServedTill : Config → ServeFault → List Connection → List Session → State → State → Type 0
 ServedTill config Accept came sessions state after = ServedAll config came sessions state after
-ServedTill config Memory came sessions state after =
-    BreaksLast config came sessions state ⊎ ((came ≡ []) × ServedAll config came sessions state after)
+ServedTill config Memory came sessions state after = BreaksLast config came sessions state
 
 -- some connections came, at most so many, and then the server stopped
 pub record Breaks (config : Config) (old new : Told) (state : State) (most : ℕ) (fault : ServeFault)
@@ -93,6 +93,16 @@ pub record Breaks (config : Config) (old new : Told) (state : State) (most : ℕ
   pub few : length came ≤ most
   pub till : ServedTill config fault came sessions state after
 
+-- memory was wanting before the first connection, and nothing was done
+abbrev pub NeverBegan : ServeFault → Told → Told → Type 0
+NeverBegan fault old new =
+    (fault ≡ Memory) × (new.connections ≡ old.connections) × (new.readings ≡ old.readings)
+
+-- how the server stopped
+abbrev pub Broken : Config → Told → Told → State → ℕ → ServeFault → Type 0
+Broken config old new state most fault =
+    Breaks config old new state most fault ⊎ NeverBegan fault old new
+
 -- a connection was just accepted, and nothing else was done
 pub record JustAccepted (old new : Told) (state : State) : Type 0 where
   pub input : List ℕ
@@ -100,6 +110,12 @@ pub record JustAccepted (old new : Told) (state : State) : Type 0 where
   pub readings : new.readings ≡ old.readings
   pub fewer : old.listener.to_come ≡ 1 + new.listener.to_come
   pub does : Does old new state state (accept ∷ [])
+
+-- the listener's count of failed calls shows whether an accept failed last
+abbrev pub Accepting : {T : Type 0} → Result T ServeFault → Told → Told → Type 0
+Accepting (Ok x) old new = new.listener.faults ≡ old.listener.faults
+Accepting (Err Memory) old new = new.listener.faults ≡ old.listener.faults
+Accepting (Err Accept) old new = new.listener.faults ≡ one_more old.listener.faults
 
 -- what calls of the listener and on its connections keep, on every form: no connection is open then,
 -- it listens, and no name was told to the outside

@@ -39,6 +39,11 @@ abbrev pub sending_if : {T E : Type 0} → Result T E → Failing
 sending_if (Ok x) = nothing
 sending_if (Err e) = sending
 
+-- what a receive that answered so took, where it wrote to the front of a list
+abbrev pub received : {E : Type 0} → Result ℕ E → List ℕ → List ℕ
+received (Ok n) list = take n list
+received (Err e) list = []
+
 -- a connection's counts of failed calls show what failed, and nothing else
 abbrev pub Fails : Failing → Connection → Connection → Type 0
 Fails nothing old new =

@@ -1,75 +1,47 @@
 // A connection from its first byte to its end.
-ghost use Rattle.std.specs.Prelude.{◌≡◌, ◌+◌, ◌<◌, IsTrue, None, true, IfOk, IfErr, OnErr};
-ghost use Rattle.glacier_http.specs.Messages.{end_of_rest};
-ghost use Rattle.glacier_server.specs.Moves.{nothing, Keeps, Counts};
-ghost use Rattle.glacier_server.specs.Served.{ServedLast, PartLast, failing_of};
-ghost use Rattle.glacier_server.specs.Turn.{Turns, BreaksOff, failing_at, end_for};
+ghost use Rattle.std.specs.Prelude.{◌≡◌, ◌+◌, ◌<◌, IsTrue, true, IfOk, IfErr, OnErr};
+ghost use Rattle.glacier_server.specs.Served.{ServedLast, PartLast, failing_to};
+ghost use Rattle.glacier_server.specs.Transfer.{Keeps};
 
-use crate::answer::{Desk, answer, refuse};
+use crate::buffers::Buffers;
 use crate::end::{End, ServeFault};
-use crate::finding::{Found, find_head};
-use crate::unread::Unread;
+use crate::service::Service;
 use crate::{Config, Store};
-use glacier_base::Memory;
 use glacier_disk::Station;
 use std::alloc::Global;
 
-/// The end of an input that has no last message.
-fn ended(unread: &Unread) -> End
-    ensures end { result ≡ end_for (end_of_rest unread.now) }
-    ensures of_none { failing_of result ≡ nothing }
-{
-    let bytes = unread.bytes();
-    if bytes.is_empty() {
-        End::Closed
-    } else {
-        End::Cut {
-            taken: bytes.len() as u64,
-        }
-    }
-}
-
-/// Takes and answers one message more, or finds that there is none.
-#[tactic(auto, using(crate::proofs::MoveLemmas::kept))]
-fn one_message<S: Station>(
-    alloc: Global,
-    station: &mut S,
-    desk: &mut Desk,
-    count: u64,
-    store: &mut Store,
-    config: &Config,
-) -> Result<Option<End>, Memory>
-    requires connected { (S.told station.old).connected ≡ true }
-    requires below { count < 1000 }
-    ensures turn { IsTrue S.tells →
-        IfOk result (λ end. Turns config.now count (S.told station.old) (S.told station.new)
-        desk.old.unread desk.new.unread store.old store.new end) }
-    ensures broken { IsTrue S.tells →
-        OnErr result (BreaksOff config.now count (S.told station.old) (S.told station.new)
-        desk.old.unread store.old) }
-    ensures below { result ≡ Ok None → count + 1 < 1000 }
-    ensures keeps { Keeps (S.told station.old) (S.told station.new) }
-    ensures cause { IfOk result (λ end. Counts (failing_at end) (S.told station.old) (S.told
-        station.new)) }
-{
-    match find_head(station, &mut desk.head, &mut desk.unread) {
-        Ok(Found::Head(spans)) => {
-            match answer(alloc, station, desk, &spans, count, store, config) {
-                Ok(end) => Ok(end),
-                Err(error) => Err(error),
+impl Service<'_> {
+    /// Answers the messages of the open connection, one after another, until it ends.
+    #[tactic(auto, using(crate::proofs::TransferLemmas::kept))]
+    pub fn serve_open<S: Station>(
+        &self,
+        station: &mut S,
+        buffers: &mut Buffers,
+        store: Store,
+    ) -> Result<(End, Store), ServeFault>
+        requires { (S.told station.old).connected ≡ true }
+        ensures served { IsTrue S.tells → IfOk result (λ r. ServedLast self.now.config.now
+            (S.told station.old) (S.told station.new) store r.1 r.0) }
+        ensures broken { IsTrue S.tells → OnErr result (PartLast self.now.config.now
+            (S.told station.old) (S.told station.new) store) }
+        ensures fault { IfErr result (λ fault. fault ≡ ServeFault.Memory) }
+        ensures keeps { Keeps (S.told station.old) (S.told station.new) (failing_to result) }
+    {
+        buffers.unread.clear();
+        let mut store = store;
+        let mut count = 0;
+        'messages: loop {
+            match self.one_message(station, buffers, &mut store, count) {
+                Ok(None) => count += 1,
+                Ok(Some(end)) => return Ok((end, store)),
+                Err(_) => return Err(ServeFault::Memory),
             }
         }
-        Ok(Found::Bad(cause)) => match refuse(alloc, station, config, cause, count) {
-            Ok(end) => Ok(Some(end)),
-            Err(error) => Err(error),
-        },
-        Ok(Found::Ended) => Ok(Some(ended(&desk.unread))),
-        Err(_) => Ok(Some(End::ReadFault)),
     }
 }
 
-/// Answers the messages of the open connection, one after another, until it ends.
-#[tactic(auto, using(crate::proofs::MoveLemmas::kept))]
+/// Answers the messages of the open connection, one after another, until it ends. It takes the
+/// memory for a connection's buffers first.
 pub fn serve_connection<S: Station>(
     alloc: Global,
     station: &mut S,
@@ -77,27 +49,20 @@ pub fn serve_connection<S: Station>(
     config: &Config,
 ) -> Result<(End, Store), ServeFault>
     requires { (S.told station.old).connected ≡ true }
-    ensures served { IsTrue S.tells →
-        IfOk result (λ r. ServedLast config.now (S.told station.old) (S.told station.new) store r.1
-        r.0) }
-    ensures broken { IsTrue S.tells →
-        OnErr result (PartLast config.now (S.told station.old) (S.told station.new) store) }
+    ensures served { IsTrue S.tells → IfOk result (λ r. ServedLast config.now (S.told station.old)
+        (S.told station.new) store r.1 r.0) }
+    ensures broken { IsTrue S.tells → OnErr result (PartLast config.now (S.told station.old)
+        (S.told station.new) store) }
     ensures fault { IfErr result (λ fault. fault ≡ ServeFault.Memory) }
-    ensures keeps { Keeps (S.told station.old) (S.told station.new) }
-    ensures cause { IfOk result (λ r. Counts (failing_of r.0) (S.told station.old) (S.told
-        station.new)) }
+    ensures keeps { Keeps (S.told station.old) (S.told station.new) (failing_to result) }
 {
-    let mut desk = match Desk::new(alloc) {
-        Ok(desk) => desk,
+    let service = Service { alloc, config };
+    let mut buffers = match Buffers::new(alloc) {
+        Ok(buffers) => buffers,
         Err(_) => return Err(ServeFault::Memory),
     };
-    let mut store = store;
-    let mut count = 0;
-    'messages: loop {
-        match one_message(alloc, station, &mut desk, count, &mut store, config) {
-            Ok(None) => count += 1,
-            Ok(Some(end)) => return Ok((end, store)),
-            Err(_) => return Err(ServeFault::Memory),
-        }
+    match service.serve_open(station, &mut buffers, store) {
+        Ok((end, after)) => Ok((end, after)),
+        Err(fault) => Err(fault),
     }
 }

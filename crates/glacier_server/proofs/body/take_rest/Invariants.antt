@@ -1,13 +1,12 @@
 use Rattle.std.proofs.Common.{◌≤◌, IsTrue}
-use Rattle.glacier_server.specs.Moves.{TakesOf, nothing, Keeps}
-use Rattle.glacier_server.specs.Machine.{State}
+use Rattle.glacier_server.specs.Transfer.{TakesOf, nothing, Keeps}
 use Rattle.glacier_server.proofs.body.take_rest.Given as goal
 
 abbrev pub invariant-loop-left : goal.invariant-loop-left
 invariant-loop-left g l = record {
   within : l.left ≤ l.fn.missing;
-  takes : IsTrue g.S.Disk.tells → (state : State) → TakesOf (g.S.Disk.told l.fn.station) (g.S.Disk.told l.station) state l.fn.missing l.left nothing;
-  keeps : Keeps (g.S.Disk.told l.fn.station) (g.S.Disk.told l.station);
+  takes : IsTrue g.S.Disk.tells → TakesOf (g.S.Disk.told l.fn.station) (g.S.Disk.told l.station) l.fn.missing l.left nothing;
+  keeps : Keeps (g.S.Disk.told l.fn.station) (g.S.Disk.told l.station) nothing;
 }
 
 abbrev pub decreases-loop-left : goal.decreases-loop-left
