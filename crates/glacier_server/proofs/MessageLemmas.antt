@@ -25,8 +25,9 @@ use Rattle.glacier_server.specs.Out.{done}
 use Rattle.glacier_server.specs.Served.{failing_of}
 use Rattle.glacier_server.specs.Session.{reading, acting, HeldAt, HeldWaiting}
 use Rattle.glacier_server.specs.Transfer.{Transfer, TakenAt, TakesOf, SentAll, SentPart, Failing, nothing, receiving, sending, breaking, NoneComing, current}
-use Rattle.glacier_server.proofs.AnswerLemmas.{answering, bad_answered, bad_part, h, behind, reads, idles, cut_is, body, body_is, body_length, said, said_is, answered, answered_part}
+use Rattle.glacier_server.proofs.AnswerLemmas.{h, behind, reads, idles, cut_is, body, body_is, body_length, said, said_is, answered, answered_part}
 use Rattle.glacier_server.proofs.CommitLemmas.{done_all, done_part}
+use Rattle.glacier_server.proofs.EndLemmas.{answering, bad_answered, bad_part}
 use Rattle.glacier_server.proofs.ExtentLemmas.{Extends}
 use Rattle.glacier_server.proofs.SessionLemmas.{all_more, same_wait}
 use Rattle.glacier_server.proofs.TransferLemmas.{then, acts_then, says, fails_as, breaks_off}
