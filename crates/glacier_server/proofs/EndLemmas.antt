@@ -37,7 +37,8 @@ is_last n (Bad cause) e is = bad_last (n + 1 == MOST_MESSAGES) is
     bad_last true is = let same : bound ≡ e = cc in subst IsLast same tt
     bad_last false is = let same : refused ≡ e = cc in subst IsLast same tt
 
-pub exchange_of : (config : Config) (x : Exchange) (last : Option InputEnd) (a : Answers config x last) → (last ≡ None → a.rest ≡ x.left)
+pub exchange_of : (config : Config) (x : Exchange) (last : Option InputEnd) (a : Answers config x last)
+    → (last ≡ None → a.rest ≡ x.left)
     → IsExchange config x (end_for_some last)
 unfolding IsLast
 exchange_of config x None a left = (a, left refl)
@@ -64,7 +65,8 @@ bad_closes n cause = go (n + 1 == MOST_MESSAGES)
     go true = refl
     go false = refl
 
-module _ (config : Config) (from : Standing) (r : ℕ) (cause : BadHead) (rest : List ℕ) (stands : BeginsBad from.unread cause rest) where
+module _ (config : Config) (from : Standing) (r : ℕ) (cause : BadHead) (rest : List ℕ)
+    (stands : BeginsBad from.unread cause rest) where
   text : List ℕ
   text = reply config from.state (Bad cause) r true
 
@@ -75,11 +77,14 @@ module _ (config : Config) (from : Standing) (r : ℕ) (cause : BadHead) (rest :
   begins_bad : Begins (from.unread ++ []) (Bad cause) rest
   begins_bad = subst (λ (l : List ℕ). BeginsBad l cause rest) (sym (append-nil from.unread)) stands
 
-  pub bad_answered : (left coming : List ℕ) (e : End) → end_for_some (last_end from.count (Bad cause)) ≡ Some e → after config from.state (Bad cause) r ≡ from.state
-      → IsExchange config (exchange_on from left coming (answering from.state from.state [] (sends (reply config from.state (Bad cause) r true)) r [])) (Some e)
+  pub bad_answered : (left coming : List ℕ) (e : End) → end_for_some (last_end from.count (Bad cause)) ≡ Some e
+      → after config from.state (Bad cause) r ≡ from.state
+      → IsExchange config (exchange_on from left coming (answering from.state from.state [] (sends
+      (reply config from.state (Bad cause) r true)) r [])) (Some e)
   unfolding text
   bad_answered left coming e end same =
-      let x = exchange_on from left coming (answering from.state from.state [] (sends (reply config from.state (Bad cause) r true)) r []) in
+      let x = exchange_on from left coming (answering from.state from.state [] (sends (reply config from.state
+      (Bad cause) r true)) r []) in
       subst (λ (o : Option End). IsExchange config x o) end
       (exchange_of config x (last_end from.count (Bad cause)) (record {
         message = Bad cause;
@@ -93,7 +98,8 @@ module _ (config : Config) (from : Standing) (r : ℕ) (cause : BadHead) (rest :
       }) (λ none. let never : None ≡ Some e = sym (ap end_for_some none) ∙ end in absurd (cc)))
 
   pub bad_part : (left coming : List ℕ) (k : ℕ)
-      → AnswersPart config (exchange_on from left coming (answering from.state from.state [] (take k (sends (reply config from.state (Bad cause) r true))) r []))
+      → AnswersPart config (exchange_on from left coming (answering from.state from.state [] (take k (sends
+      (reply config from.state (Bad cause) r true))) r []))
   unfolding text
   bad_part left coming k = record {
     message = Bad cause;
