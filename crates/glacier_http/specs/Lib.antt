@@ -7,6 +7,7 @@ pub mod Opening
 pub mod Parsed
 pub mod Printed
 pub mod Put
+pub mod Query
 pub mod ReadBack
 pub mod Spans
 pub mod Step

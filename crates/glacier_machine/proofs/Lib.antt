@@ -1,4 +1,5 @@
-pub mod Cuts
-pub mod Dates
 pub mod Floats
+pub mod IsoAscii
 pub mod NameLemmas
+pub mod PathLemmas
+pub mod RouteLemmas

@@ -3,21 +3,24 @@
 
 mod action;
 mod ascii;
-mod asking;
 mod bodies;
+mod config;
+pub mod laws;
 mod objects;
 mod path;
 mod refusals;
 mod replies;
+mod requests;
 mod routes;
 mod routing;
-mod stepping;
+mod steps;
 #[cfg(test)]
 mod tests;
 
-pub use action::{Action, Answer, Asked};
-pub use asking::{read_request, request_of};
+pub use action::{Action, Answer, Request};
+pub use config::Config;
 pub use refusals::{bad_head_refusal, refusal_reply};
+pub use requests::{MOST_BODY, read_request, request_of};
 pub use routes::{Op, Route, RouteStep};
 pub use routing::route;
-pub use stepping::step;
+pub use steps::step;

@@ -2,7 +2,7 @@
 use Rattle.std.proofs.Common.{◌≡◌, ℕ, ◌+◌, List, [], ◌++◌, Some, None, sym, subst}
 use Rattle.std.specs.Prelude.{Option}
 use Rattle.glacier_disk.specs.Network.{Connection}
-use Rattle.glacier_server.specs.declared.config.Config.{Config}
+use Rattle.glacier_machine.specs.declared.config.Config.{Config}
 use Rattle.glacier_server.specs.declared.end.End.{End}
 use Rattle.glacier_server.specs.Machine.{State}
 use Rattle.glacier_server.specs.Moves.{Moves, current}

@@ -9,7 +9,7 @@ use Rattle.glacier_http.specs.declared.head_spans.HeadSpans.{HeadSpans}
 use Rattle.glacier_http.specs.declared.head_spans.HeadStep.TheVariants as step
 use Rattle.glacier_http.specs.Step.{IsStep}
 use Rattle.glacier_http.specs.Messages.{Message, good as Good, bad as Bad, cut, end_of_rest, last_end}
-use Rattle.glacier_server.specs.declared.config.Config.{Config}
+use Rattle.glacier_machine.specs.declared.config.Config.{Config}
 use Rattle.glacier_server.specs.declared.end.End.{End}
 use Rattle.glacier_server.specs.declared.end.End.TheVariants.{Cut, ReadFault, SendFault}
 use Rattle.glacier_server.specs.Finding.{AtFront}

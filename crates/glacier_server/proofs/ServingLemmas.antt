@@ -3,7 +3,7 @@ use Rattle.std.proofs.Common.{◌≡◌, ℕ, ◌+◌, ◌-◌, ◌^◌, ◌<◌
 use Rattle.std.specs.Prelude.{◌≢◌, min}
 use Rattle.glacier_base.specs.Outside.{HasRisen}
 use Rattle.glacier_disk.specs.Network.{Connection, accepted}
-use Rattle.glacier_server.specs.declared.config.Config.{Config}
+use Rattle.glacier_machine.specs.declared.config.Config.{Config}
 use Rattle.glacier_server.specs.declared.end.End.{End}
 use Rattle.glacier_server.specs.declared.end.End.TheVariants.{ReadFault, SendFault}
 use Rattle.glacier_server.specs.declared.end.ServeFault.{ServeFault}

@@ -6,7 +6,7 @@ use Rattle.glacier_http.specs.declared.bad_head.BadHead.{BadHead}
 use Rattle.glacier_http.specs.Opening.{HasNoOpening}
 use Rattle.glacier_http.specs.Messages.{bad, Begins, end_of_rest}
 use Rattle.glacier_http.proofs.BeginLemmas.{none_waits}
-use Rattle.glacier_server.specs.declared.config.Config.{Config}
+use Rattle.glacier_machine.specs.declared.config.Config.{Config}
 use Rattle.glacier_server.specs.declared.end.End.{End}
 use Rattle.glacier_server.specs.declared.end.End.TheVariants.{Closed, Cut, Refused, Bound, ReadFault, SendFault}
 use Rattle.glacier_server.specs.Machine.{State}

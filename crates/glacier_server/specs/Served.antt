@@ -4,7 +4,7 @@ use Rattle.httparse.specs.Grammar.{RequestHead}
 use Rattle.glacier_disk.specs.Network.{Connection}
 use Rattle.glacier_http.specs.Opening.{BeginsHead}
 use Rattle.glacier_http.specs.Messages.{Message, Hears, Heard, BeginsNone, InputEnd, closed, cut, refused, bound, end_of_rest}
-use Rattle.glacier_server.specs.declared.config.Config.{Config}
+use Rattle.glacier_machine.specs.declared.config.Config.{Config}
 use Rattle.glacier_server.specs.declared.end.End.{End}
 use Rattle.glacier_server.specs.declared.end.End.TheVariants.{Closed, Cut, Refused, Bound, ReadFault, SendFault}
 use Rattle.glacier_server.specs.Machine.{State}

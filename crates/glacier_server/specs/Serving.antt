@@ -1,7 +1,7 @@
 -- What a server does for the connections that come, one after another.
 use Rattle.std.specs.Prelude.{◌≡◌, ◌≢◌, ℕ, ◌+◌, ◌<◌, ◌≤◌, List, [], ◌∷◌, ◌++◌, length}
 use Rattle.glacier_disk.specs.Network.{Connection, accepted}
-use Rattle.glacier_server.specs.declared.config.Config.{Config}
+use Rattle.glacier_machine.specs.declared.config.Config.{Config}
 use Rattle.glacier_server.specs.declared.end.End.{End}
 use Rattle.glacier_server.specs.declared.end.End.TheVariants.{ReadFault, SendFault}
 use Rattle.glacier_server.specs.declared.end.ServeFault.{ServeFault}

@@ -1,0 +1,100 @@
+-- One message, and a run over messages and readings of the clock.
+use Rattle.std.specs.Prelude.{ℕ, List, [], ◌∷◌, ◌++◌, Option, Some, None, Result, Ok, Err, unwrap_or, length, max}
+use Rattle.std.specs.Cmp.Lexicographic.{slice_cmp}
+use Rattle.std.specs.FinMap as map
+use Rattle.std.specs.Ordering.{nat_cmp}
+use Rattle.glacier_http.specs.declared.reply.Reply.{Reply}
+use Rattle.glacier_http.specs.Messages.{Message, good, bad}
+use Rattle.glacier_http.specs.View.{text_of}
+use Rattle.glacier_vault.specs.declared.event.Event.{Event}
+use Rattle.glacier_vault.specs.declared.refusal.Refusal.{Refusal}
+use Rattle.glacier_vault.specs.declared.rules.Rules.{Rules}
+use Rattle.glacier_vault.specs.declared.state.AccountState.{AccountState}
+use Rattle.glacier_vault.specs.Account.{empty_account}
+use Rattle.glacier_machine.specs.declared.action.Request.{Request}
+use Rattle.glacier_machine.specs.declared.config.Config.{Config}
+use Rattle.glacier_machine.specs.AccountSteps.{Step, step_of, after_event}
+use Rattle.glacier_machine.specs.Refusals.{head_refusal}
+use Rattle.glacier_machine.specs.Replies.{refused}
+use Rattle.glacier_machine.specs.Requests.{request_in}
+
+-- the state of the service: each account that was ever changed
+abbrev pub Accounts : Type 0
+Accounts = map.FinMap (slice_cmp nat_cmp) AccountState
+
+-- the state of an account, which is empty where it was never changed
+abbrev pub account_in : Accounts → List ℕ → AccountState
+account_in accounts account = unwrap_or (map.get accounts account) empty_account
+
+-- an event of an account at a moment
+pub record AccountEvent : Type 0 where
+  pub account : List ℕ
+  pub moment : ℕ
+  pub event : Event
+
+-- the accounts after an event
+abbrev pub after_account_event : Accounts → AccountEvent → Accounts
+after_account_event accounts h =
+    map.insert accounts h.account (after_event h.moment (account_in accounts h.account) h.event)
+
+-- the accounts after events in order
+abbrev pub after_all : Accounts → List AccountEvent → Accounts
+after_all accounts [] = accounts
+after_all accounts (h ∷ more) = after_all (after_account_event accounts h) more
+
+-- what a message brings about: the reply to it, and its events
+pub record Outcome : Type 0 where
+  pub reply : Reply
+  pub events : List AccountEvent
+
+-- the outcome of a refused message: it has no event
+abbrev pub refusal_outcome : Refusal → Outcome
+refusal_outcome refusal = record { reply = refused refusal; events = [] }
+
+-- the event of a change, if it has one
+abbrev pub events_of : List ℕ → ℕ → Option Event → List AccountEvent
+events_of account m None = []
+events_of account m (Some event) = record { account = account; moment = m; event = event } ∷ []
+
+-- the outcome of a step
+abbrev pub step_outcome : List ℕ → ℕ → Step → Outcome
+step_outcome account m step =
+    record { reply = step.answer.reply; events = events_of account m step.answer.change.event }
+
+-- the moment of a message: the clock's reading, or the account's last moment where that is later
+abbrev pub moment_of : AccountState → ℕ → ℕ
+moment_of before reading = max before.last reading
+
+-- the outcome of a request where the account's state is this
+abbrev pub action_outcome : Rules → AccountState → Request → ℕ → Outcome
+action_outcome rules before request reading =
+    step_outcome request.account (moment_of before reading) (step_of rules (moment_of before reading) request.action before)
+
+-- what holds for the requests of an account
+abbrev pub rules_of : Config → List ℕ → Rules
+rules_of config account = record { region = config.region; account = account; delays = config.delays }
+
+-- the outcome of a message with a good head
+abbrev pub request_outcome : Config → Accounts → Result Request Refusal → ℕ → Outcome
+request_outcome config accounts (Ok request) reading =
+    action_outcome (rules_of config request.account) (account_in accounts request.account) request reading
+request_outcome config accounts (Err refusal) reading = refusal_outcome refusal
+
+-- the outcome of one message, at a reading of the clock
+abbrev pub one : Config → Accounts → Message → ℕ → Outcome
+one config accounts (good head body) reading =
+    request_outcome config accounts (request_in (text_of head) (length body)) reading
+one config accounts (bad cause) reading = refusal_outcome (head_refusal cause)
+
+-- the outcomes of messages in order, each at its own reading; one without a reading isn't run
+abbrev pub run : Config → Accounts → List Message → List ℕ → List Outcome
+run config accounts [] readings = []
+run config accounts (message ∷ messages) [] = []
+run config accounts (message ∷ messages) (reading ∷ readings) =
+    one config accounts message reading
+    ∷ run config (after_all accounts (one config accounts message reading).events) messages readings
+
+-- the events of a run, in order
+abbrev pub events : List Outcome → List AccountEvent
+events [] = []
+events (outcome ∷ more) = outcome.events ++ events more

@@ -1,0 +1,28 @@
+// What a service is told when it starts.
+ghost use Rattle.std.specs.Prelude.{◌≡◌};
+ghost use Rattle.glacier_machine.specs.Outcomes.{rules_of};
+
+use glacier_base::{Account, Region};
+use glacier_vault::Rules;
+
+/// What a service is told when it starts.
+#[derive(Clone, Copy)]
+pub struct Config {
+    /// The region in the names of vaults.
+    pub region: Region,
+    /// How many seconds a retrieval job takes, by its tier: Expedited, Standard and Bulk.
+    pub delays: [u32; 3],
+}
+
+impl Config {
+    /// What holds for the requests of an account.
+    pub fn rules(&self, account: Account) -> Rules
+        ensures { result ≡ rules_of self.now account }
+    {
+        Rules {
+            region: self.region,
+            account,
+            delays: self.delays,
+        }
+    }
+}

@@ -1,0 +1,20 @@
+// Laws of the definitions, which no code calls.
+ghost use Rattle.std.specs.Prelude.{◌≡◌, ◌↔◌, ℕ, List, IsTrue};
+ghost use Rattle.glacier_base.specs.Names.{is_vault_name};
+ghost use Rattle.glacier_http.specs.View.{HeadText};
+ghost use Rattle.glacier_machine.specs.Paths.{AsksFor};
+ghost use Rattle.glacier_machine.specs.Routes.{route_of};
+ghost use Rattle.glacier_machine.specs.declared.routes.Route.{Route as HeadRoute};
+ghost use Rattle.glacier_machine.specs.declared.routes.RouteStep.TheVariants as found;
+
+/// A head has exactly the route that its method and path ask for. It is BadName exactly where they
+/// ask for one on a vault whose name breaks the rule of names, and NoRoute where they ask for none.
+pub fn route_is_what_is_asked_for()
+    ensures route { (head : HeadText) (route : HeadRoute) → (route_of head ≡ found.Route route)
+        ↔ ((name : List ℕ) × AsksFor head route name × IsTrue (is_vault_name name)) }
+    ensures bad_name { (head : HeadText) → (route_of head ≡ found.BadName)
+        ↔ ((route : HeadRoute) × (name : List ℕ) × AsksFor head route name
+        × (¬ IsTrue (is_vault_name name))) }
+    ensures no_route { (head : HeadText) → (route_of head ≡ found.NoRoute)
+        ↔ ((route : HeadRoute) (name : List ℕ) → ¬ (AsksFor head route name)) }
+{}
