@@ -67,7 +67,7 @@ pub record ServeRun (station : StationUse) (sink : SinkUse) (address : List ℕ)
 
 -- words of no form: nothing is opened, not standard input either
 pub record UsageRun (files : FileUse) (status : ℕ) : Type 0 where
-  pub status : (status ≡ 2) ⊎ (status ≡ 7)
+  pub ends : (status ≡ 2) ⊎ (status ≡ 7)
   pub nothing_opened : GivesNone files
 
 -- why a status comes: the words are none of the forms, or a read, a call of the listener, or a write failed
