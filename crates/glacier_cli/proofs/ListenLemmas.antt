@@ -1,5 +1,5 @@
 -- What a server does at a station, once it listens at an address.
-use Rattle.std.proofs.Common.{◌≡◌, ◌++◌, ◌∙◌, ℕ, List, [], refl, sym, ap, subst, arith, append-nil}
+use Rattle.std.proofs.Common.{◌≡◌, ◌++◌, ◌∙◌, ℕ, List, [], inl, inr, refl, sym, ap, subst, arith, append-nil}
 use Rattle.std.specs.Prelude.{Result}
 use Rattle.std.specs.FinMap as map
 use Rattle.glacier_disk.specs.Calls.{ListenCall}
@@ -10,15 +10,14 @@ use Rattle.glacier_server.specs.declared.end.ServeFault.{ServeFault}
 use Rattle.glacier_server.specs.declared.end.ServeFault.TheVariants.{Accept}
 use Rattle.glacier_server.specs.Acts.{sent_by}
 use Rattle.glacier_server.specs.Machine.{State}
-use Rattle.glacier_server.specs.Serving.{Comes, Serves, Breaks, acts_of, readings_of}
+use Rattle.glacier_server.specs.Serving.{Comes, Serves, Breaks, Broken, acts_of, readings_of}
 use Rattle.glacier_server.specs.Session.{Session}
-use Rattle.glacier_cli.specs.StationUse.{default_config}
 use Rattle.glacier_cli.specs.declared.serve.TheConstants.{CONNECTIONS}
 
 module _ {T E : Type 0} {old mid : Told} {result : Result T E} (listens : ListenCall old mid result) where
   -- no connection came, since the station doesn't listen
-  pub none_came : Breaks default_config old mid map.empty CONNECTIONS Accept
-  none_came = record {
+  pub none_came : {terms : Config} → Broken terms old mid map.empty CONNECTIONS Accept
+  none_came = inl (record {
     came = [];
     sessions = [];
     after = map.empty;
@@ -29,7 +28,7 @@ module _ {T E : Type 0} {old mid : Told} {result : Result T E} (listens : Listen
     };
     few = omega arith;
     till = refl;
-  }
+  })
 
   -- what came afterwards came from before it on, since listening takes no connection and no reading
   comes_from : {new : Told} {state after : State} {came : List Connection} {sessions : List Session}
@@ -44,13 +43,13 @@ module _ {T E : Type 0} {old mid : Told} {result : Result T E} (listens : Listen
     };
   }
 
-  -- a server that is told of no others has the default terms, and begins with no account
-  module _ {new : Told} {config : Config} {store : State} (is_default : config ≡ default_config) (is_empty : store ≡ map.empty) where
+  -- a server with these terms, which begins with no account
+  module _ {new : Told} {config terms : Config} {store : State} (is_given : config ≡ terms) (is_empty : store ≡ map.empty) where
     -- all that came
     pub serves_at : {state : State} {count : ℕ} → Serves config mid new store state count
-        → Serves default_config old new map.empty state count
+        → Serves terms old new map.empty state count
     serves_at {state = state} {count = count} given =
-        let serves = subst (λ (c : Config). Serves c mid new map.empty state count) is_default
+        let serves = subst (λ (c : Config). Serves c mid new map.empty state count) is_given
             (subst (λ (s : State). Serves config mid new s state count) is_empty given) in
         record {
           came = serves.came;
@@ -62,16 +61,17 @@ module _ {T E : Type 0} {old mid : Told} {result : Result T E} (listens : Listen
         }
 
     -- as far as the fault
-    pub breaks_at : {fault : ServeFault} → Breaks config mid new store CONNECTIONS fault
-        → Breaks default_config old new map.empty CONNECTIONS fault
-    breaks_at {fault = fault} given =
-        let breaks = subst (λ (c : Config). Breaks c mid new map.empty CONNECTIONS fault) is_default
+    pub broken_at : {fault : ServeFault} → Broken config mid new store CONNECTIONS fault
+        → Broken terms old new map.empty CONNECTIONS fault
+    broken_at {fault = fault} (inl given) =
+        let breaks = subst (λ (c : Config). Breaks c mid new map.empty CONNECTIONS fault) is_given
             (subst (λ (s : State). Breaks config mid new s CONNECTIONS fault) is_empty given) in
-        record {
+        inl (record {
           came = breaks.came;
           sessions = breaks.sessions;
           after = breaks.after;
           comes = comes_from breaks.comes;
           few = breaks.few;
           till = breaks.till;
-        }
+        })
+    broken_at (inr never) = inr ((never.0, never.1 ∙ listens.connections, never.2 ∙ listens.readings))
