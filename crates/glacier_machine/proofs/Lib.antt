@@ -1,5 +1,7 @@
+pub mod AsciiTexts
 pub mod Floats
-pub mod IsoAscii
+pub mod HeaderLemmas
 pub mod NameLemmas
 pub mod PathLemmas
+pub mod RequestLemmas
 pub mod RouteLemmas
