@@ -1,5 +1,5 @@
 -- Names that must be signed and aren't are ASCII.
-use Rattle.std.proofs.Common.{◌≡◌, ℕ, ◌<◌, Bool, true, false, cond, List, [], ◌∷◌, ◌++◌, map, Option, Some, None, arith}
+use Rattle.std.proofs.Common.{◌≡◌, ℕ, suc, ◌<◌, Bool, true, false, cond, List, [], ◌∷◌, ◌++◌, map, Option, Some, None, refl, arith}
 use Rattle.std.specs.Prelude.{All, IfSome, IfErr, IsAscii, IsTrue, codes, nat_lt, ⊤}
 use Rattle.std.specs.Cmp.Lexicographic.{slice_cmp}
 use Rattle.std.specs.Ordering.{nat_cmp, is_lt}
@@ -31,13 +31,15 @@ host_is_ascii = ascii_by (λ b. nat_lt b 128) (λ b h. ltb-true b 128 h) (codes 
 
 unsigned_are_ascii : (names : List (List ℕ)) (fields : List (List ℕ × List ℕ)) → HasNames fields → All IsAscii (unsigned_in names fields)
 unsigned_are_ascii names [] all = All-nil IsAscii
-unsigned_are_ascii names (field ∷ fields) all = go (is_unsigned names field.0)
+unsigned_are_ascii names (field ∷ fields) all =
+    go (is_unsigned names field.0) (unsigned_are_ascii names fields (All-tail (λ f. IsToken f.0) field fields all))
   where
-    rest : All IsAscii (unsigned_in names fields)
-    rest = unsigned_are_ascii names fields (All-tail _ field fields all)
-    go : (t : Bool) → All IsAscii (cond t (lower field.0 ∷ unsigned_in names fields) (unsigned_in names fields))
-    go true = All-cons IsAscii (lower field.0) (unsigned_in names fields) (lower_is_ascii field.0 (token_is_ascii field.0 (All-head _ field fields all))) rest
-    go false = rest
+    go : (t : Bool) → All IsAscii (unsigned_in names fields)
+        → All IsAscii (cond t (lower field.0 ∷ unsigned_in names fields) (unsigned_in names fields))
+    go true rest =
+        All-cons IsAscii (lower field.0) (unsigned_in names fields)
+        (lower_is_ascii field.0 (token_is_ascii field.0 (All-head (λ f. IsToken f.0) field fields all))) rest
+    go false rest = rest
 
 lesser_is_ascii : (a b : List ℕ) → IsAscii a → IsAscii b → IsAscii (lesser a b)
 lesser_is_ascii a b x y = go (is_lt (slice_cmp nat_cmp b a))

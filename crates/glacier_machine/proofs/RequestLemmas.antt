@@ -2,6 +2,7 @@
 use Rattle.std.proofs.Common.{◌≡◌, ℕ, ◌<◌, ◌≤◌, Bool, true, false, cond, List, [], ◌∷◌, length, Option, Some, None, Result, Ok, Err, refl, ap, sym, subst, ◌∙◌, arith}
 use Rattle.std.specs.Prelude.{IfSome, IfErr, IsAscii, bytes_eq, codes, nat_lt, ⊤}
 use Rattle.std.proofs.lemmas.Bool.{ltb-true, ltb-false}
+use Rattle.hex.specs.Hex.{encode_lower}
 use Rattle.sha2.specs.Sha256.{sha256}
 use Rattle.glacier_base.specs.Digests.{digest_of}
 use Rattle.glacier_http.specs.Fields.{values_of}
@@ -16,9 +17,10 @@ use Rattle.glacier_machine.specs.declared.content_hash.TheConstants.{MOST_BODY}
 use Rattle.glacier_machine.specs.declared.routes.Route.{Route}
 use Rattle.glacier_machine.specs.declared.routes.RouteStep.{RouteStep}
 use Rattle.glacier_machine.specs.declared.routes.RouteStep.TheVariants as found
-use Rattle.glacier_sigv4.specs.Verdict.{Verdict}
+use Rattle.glacier_sigv4.specs.Payload.{first_or, payload_of}
+use Rattle.glacier_sigv4.specs.Verdict.{Verdict, verdict}
 use Rattle.glacier_vault.specs.declared.refusal.Refusal.{Refusal}
-use Rattle.glacier_vault.specs.declared.refusal.Refusal.TheVariants.{BodyTooLong}
+use Rattle.glacier_vault.specs.declared.refusal.Refusal.TheVariants.{HashNeeded, BodyTooLong}
 
 -- a long body is refused, whatever its bytes are
 long_body : (head : HeadText) (n : ℕ) (kept whole : List ℕ) → nat_lt MOST_BODY n ≡ true → body_refusal head n kept ≡ body_refusal head n whole
@@ -39,3 +41,45 @@ same_verified : (verdict : Verdict) (head : HeadText) (n : ℕ) (kept whole : Li
     → verified_request verdict head n kept ≡ verified_request verdict head n whole
 same_verified (Ok signer) head n kept whole same = same_routed (route_of head) signer head n kept whole same
 same_verified (Err fault) head n kept whole same = refl
+
+-- the payload text is that of the body where none is named
+pub payload_unnamed : (head : HeadText) (body : List ℕ) → named_hashes head ≡ [] → payload_of head.fields body ≡ encode_lower (sha256 body)
+payload_unnamed head body none = ap (λ values. first_or values (encode_lower (sha256 body))) none
+
+-- and else the first that is named, whatever the body is
+pub payload_named : (head : HeadText) (body value : List ℕ) (more : List (List ℕ)) → named_hashes head ≡ value ∷ more → payload_of head.fields body ≡ value
+payload_named head body value more named = ap (λ values. first_or values (encode_lower (sha256 body))) named
+
+same_signer : (config : Config) (head : HeadText) (kept whole : List ℕ) (reading : ℕ) (value : List ℕ) (more : List (List ℕ))
+    → named_hashes head ≡ value ∷ more → signer_of config head kept reading ≡ signer_of config head whole reading
+same_signer config head kept whole reading value more named =
+    ap (λ payload. verdict config.ring config.region head payload reading)
+    (payload_named head kept value more named ∙ sym (payload_named head whole value more named))
+
+-- a long body decides nothing by its bytes
+same_long : (config : Config) (head : HeadText) (n : ℕ) (kept whole : List ℕ) (reading : ℕ) → nat_lt MOST_BODY n ≡ true
+    → request_with config head n kept reading ≡ request_with config head n whole reading
+same_long config head n kept whole reading long = go (named_hashes head) refl
+  where
+    same : body_refusal head n kept ≡ body_refusal head n whole
+    same = long_body head n kept whole long
+    go : (values : List (List ℕ)) → named_hashes head ≡ values
+        → needed_request (need_refusal values n) (signer_of config head kept reading) head n kept
+        ≡ needed_request (need_refusal values n) (signer_of config head whole reading) head n whole
+    go [] named =
+        ap (λ t. needed_request (cond t (Some (HashNeeded n)) None) (signer_of config head kept reading) head n kept) long
+        ∙ sym (ap (λ t. needed_request (cond t (Some (HashNeeded n)) None) (signer_of config head whole reading) head n whole) long)
+    go (value ∷ more) named =
+        ap (λ v. verified_request v head n kept) (same_signer config head kept whole reading value more named)
+        ∙ same_verified (signer_of config head whole reading) head n kept whole same
+
+-- so what is kept of a body is enough
+pub kept_is_enough : (config : Config) (head : HeadText) (n : ℕ) (kept whole : List ℕ) (reading : ℕ) → length whole ≡ n → IsKept kept whole
+    → request_with config head n kept reading ≡ request_in config head whole reading
+kept_is_enough config head n kept whole reading is kept_is =
+    ap (λ k. request_with config head k kept reading) (sym is) ∙ go (nat_lt MOST_BODY (length whole)) refl
+  where
+    go : (t : Bool) → nat_lt MOST_BODY (length whole) ≡ t
+        → request_with config head (length whole) kept reading ≡ request_with config head (length whole) whole reading
+    go true long = same_long config head (length whole) kept whole reading long
+    go false short = ap (λ body. request_with config head (length whole) body reading) (kept_is (ltb-false MOST_BODY (length whole) short))

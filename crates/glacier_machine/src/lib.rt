@@ -16,8 +16,6 @@ mod routes;
 mod routing;
 mod signed_requests;
 mod steps;
-#[cfg(test)]
-mod tests;
 
 pub use action::{Action, Answer, Request};
 pub use config::Config;
