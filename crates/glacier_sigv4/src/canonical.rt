@@ -1,13 +1,13 @@
 // The canonical request.
-ghost use Rattle.std.specs.Prelude.{◌≡◌, ◌++◌, IfOk, OnOk, map};
+ghost use Rattle.std.specs.Prelude.{◌≡◌, ◌++◌, IfOk, OnOk};
 ghost use Rattle.std.specs.List.{slice_split, join_with_byte};
 ghost use Rattle.glacier_base.specs.Cuts.{is_byte};
-ghost use Rattle.glacier_sigv4.specs.Canonical.{canonical_of, front_text, signed_text, next_name};
-ghost use Rattle.glacier_sigv4.specs.Values.{field_texts, pair_of_field};
+ghost use Rattle.glacier_sigv4.specs.Canonical.{canonical_of, request_of, front_text, signed_text, next_name};
+ghost use Rattle.glacier_sigv4.specs.CanonicalFields.{field_texts, pairs_of_fields};
 
-use crate::fields::Fields;
-use crate::query::put_query;
-use crate::values::put_field;
+use crate::canonical_fields::put_field;
+use crate::canonical_query::put_query;
+use crate::field_source::FieldSource;
 use glacier_base::{List, Memory, Text, next_piece};
 use glacier_http::Field;
 use std::alloc::Global;
@@ -33,7 +33,7 @@ pub(crate) fn put_front(
 }
 
 /// Writes a line for each of the names, which stand between semicolons.
-fn put_named<F: Fields>(out: &mut Vec<u8>, fields: &F, names: &[u8]) -> Result<(), Memory>
+fn put_named<F: FieldSource>(out: &mut Vec<u8>, fields: &F, names: &[u8]) -> Result<(), Memory>
     ensures { OnOk result (out.new.items
         ≡ out.old.items ++ field_texts (F.pairs fields.now) (slice_split (is_byte 59) names.now)) }
 {
@@ -49,7 +49,7 @@ fn put_named<F: Fields>(out: &mut Vec<u8>, fields: &F, names: &[u8]) -> Result<(
 }
 
 /// Writes the lines from the fields on, where the signed names stand between semicolons.
-pub(crate) fn put_signed<F: Fields>(
+pub(crate) fn put_signed<F: FieldSource>(
     out: &mut Vec<u8>,
     fields: &F,
     names: &[u8],
@@ -67,7 +67,7 @@ pub(crate) fn put_signed<F: Fields>(
 }
 
 /// Writes a line for each of the names.
-fn put_listed<F: Fields>(out: &mut Vec<u8>, fields: &F, names: &[Text]) -> Result<(), Memory>
+fn put_listed<F: FieldSource>(out: &mut Vec<u8>, fields: &F, names: &[Text]) -> Result<(), Memory>
     ensures { OnOk result (out.new.items
         ≡ out.old.items ++ field_texts (F.pairs fields.now) names.now) }
 {
@@ -110,8 +110,8 @@ pub fn canonical_request(
     signed: &List<Text>,
     payload: &[u8],
 ) -> Result<Text, Memory>
-    ensures { IfOk result (λ text. text ≡ canonical_of method.now path.now query.now
-        (map pair_of_field fields.now) signed.now payload.now) }
+    ensures { IfOk result (λ text. text ≡ canonical_of (request_of method.now path.now query.now
+        (pairs_of_fields fields.now) payload.now) signed.now) }
 {
     let mut out = Vec::new(alloc);
     put_front(alloc, &mut out, method, path, query)?;
