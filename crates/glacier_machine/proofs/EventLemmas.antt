@@ -1,15 +1,14 @@
 -- The events of a message are its signer's.
-use Rattle.std.proofs.Common.{◌≡◌, ℕ, List, [], ◌∷◌, Option, Some, None, Result, Ok, Err, refl, ap, sym, ◌∙◌}
+use Rattle.std.proofs.Common.{◌≡◌, ℕ, List, [], Option, Some, None, Result, Ok, Err, refl, ap}
 use Rattle.std.specs.Prelude.{All}
 use Rattle.std.proofs.lemmas.List.Elements.{All-nil, All-cons}
 use Rattle.glacier_http.specs.Messages.{Message, good, bad}
 use Rattle.glacier_http.specs.View.{HeadText, text_of}
-use Rattle.glacier_machine.specs.AccountSteps.{step_of}
 use Rattle.glacier_machine.specs.ContentHash.{named_hashes, need_refusal}
-use Rattle.glacier_machine.specs.Outcomes.{Accounts, AccountEvent, account_in, events_of, moment_of, rules_of, request_outcome, one}
+use Rattle.glacier_machine.specs.Outcomes.{Accounts, AccountEvent, events_of, request_outcome, one}
 use Rattle.glacier_machine.specs.Requests.{routed_action}
 use Rattle.glacier_machine.specs.Routes.{route_of}
-use Rattle.glacier_machine.specs.SignedRequests.{signer_of, on_account, routed_request, verified_request, needed_request, request_in}
+use Rattle.glacier_machine.specs.SignedRequests.{signer_of, on_account, routed_request, needed_request, request_in}
 use Rattle.glacier_machine.specs.Verified.{IsSignedBy}
 use Rattle.glacier_machine.specs.declared.action.Action.{Action}
 use Rattle.glacier_machine.specs.declared.action.Request.{Request}

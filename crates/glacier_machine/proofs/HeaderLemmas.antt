@@ -1,6 +1,6 @@
 -- Names that must be signed and aren't are ASCII.
-use Rattle.std.proofs.Common.{◌≡◌, ℕ, suc, ◌<◌, Bool, true, false, cond, List, [], ◌∷◌, ◌++◌, map, Option, Some, None, refl, arith}
-use Rattle.std.specs.Prelude.{All, IfSome, IfErr, IsAscii, IsTrue, codes, nat_lt, ⊤}
+use Rattle.std.proofs.Common.{ℕ, suc, ◌<◌, Bool, true, false, cond, List, [], ◌∷◌, ◌++◌, Option, Some, None, refl, arith}
+use Rattle.std.specs.Prelude.{All, IfSome, IsAscii, IsTrue, codes, nat_lt}
 use Rattle.std.specs.Cmp.Lexicographic.{slice_cmp}
 use Rattle.std.specs.Ordering.{nat_cmp, is_lt}
 use Rattle.std.proofs.lemmas.Bool.{ltb-true}
@@ -59,6 +59,7 @@ first_is_ascii names fields all = least_is_ascii None (unsigned_host names ++ un
   where
     rest : All IsAscii (unsigned_in names fields)
     rest = unsigned_are_ascii names fields all
+
     go : (t : Bool) → All IsAscii (cond t [] (codes "host" ∷ []) ++ unsigned_in names fields)
     go true = rest
     go false = All-cons IsAscii (codes "host") (unsigned_in names fields) host_is_ascii rest

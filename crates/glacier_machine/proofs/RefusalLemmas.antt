@@ -1,14 +1,15 @@
 -- The texts of refusals are ASCII.
-use Rattle.std.proofs.Common.{◌≡◌, ℕ, Bool, true, false, cond, List, [], ◌∷◌, length, Option, Some, None, Result, Ok, Err, refl, ap, arith}
-use Rattle.std.specs.Prelude.{IfSome, IfErr, IsAscii, not, bytes_eq, codes, nat_lt, ⊤}
+use Rattle.std.proofs.Common.{ℕ, Bool, true, false, cond, List, [], ◌∷◌, Option, Some, None, Result, Ok, Err, refl}
+use Rattle.std.specs.Prelude.{IfSome, IfErr, IsAscii, not, bytes_eq, codes, nat_lt}
 use Rattle.std.proofs.lemmas.Bool.{ltb-true}
 use Rattle.sha2.specs.Sha256.{sha256}
 use Rattle.glacier_base.specs.Dates.{basic_of}
 use Rattle.glacier_base.specs.Digests.{digest_of}
+use Rattle.glacier_http.specs.Fields.{values_of}
 use Rattle.glacier_http.specs.View.{HeadText, HasNames}
 use Rattle.glacier_machine.specs.ContentHash.{hash_name, named_hashes, need_refusal, digest_refusal, hash_refusal, length_refusal, mismatch, content_refusal}
 use Rattle.glacier_machine.specs.Refusals.{HasAsciiText}
-use Rattle.glacier_machine.specs.Requests.{account_refusal, token_refusal, version_refusal, first_of_two, fields_refusal, body_refusal, request_refusal, unless, routed_action, action_of}
+use Rattle.glacier_machine.specs.Requests.{account_refusal, token_refusal, version_refusal, first_of_two, fields_refusal, body_refusal, request_refusal, unless, action_of}
 use Rattle.glacier_machine.specs.Routes.{route_of}
 use Rattle.glacier_machine.specs.SignedRequests.{fault_refusal, signer_of, on_account, routed_request, verified_request, needed_request, request_with}
 use Rattle.glacier_machine.specs.declared.config.Config.{Config}
@@ -26,7 +27,7 @@ use Rattle.glacier_sigv4.specs.declared.auth_fault.AuthFault.{AuthFault}
 use Rattle.glacier_sigv4.specs.declared.auth_fault.AuthFault.TheVariants as fault
 use Rattle.glacier_sigv4.specs.declared.ring.Entry.{Entry}
 use Rattle.glacier_vault.specs.declared.refusal.Refusal.{Refusal}
-use Rattle.glacier_vault.specs.declared.refusal.Refusal.TheVariants.{OtherAccount, Token, BadVersion, HashNeeded, BodyTooLong, ContentMismatch}
+use Rattle.glacier_vault.specs.declared.refusal.Refusal.TheVariants.{OtherAccount, BadVersion, HashNeeded, BodyTooLong, ContentMismatch}
 use Rattle.glacier_base.specs.Dates.{basic_moment}
 
 -- the name of a fault is ASCII
@@ -69,11 +70,13 @@ module _ (region : List ℕ) (head : HeadText) (names : HasNames head.fields) (p
       go true None ascii false false = tt
 
   verdict_ascii : (ring : List Entry) → IfErr (verdict ring region head payload reading) HasAsciiName
-  verdict_ascii ring = by_claim (claim_in head) (claim_of_ascii head.fields _ _)
+  verdict_ascii ring = by_claim (claim_in head)
+      (claim_of_ascii head.fields (values_of (codes "authorization") head.fields) (values_of (codes "x-amz-date") head.fields))
     where
       by_key : (claim : ClaimText) (entry : Option Entry) → IfErr (judged_key region head payload reading claim entry) HasAsciiName
       by_key claim None = tt
       by_key claim (Some entry) = entry_ascii claim entry
+
       by_claim : (claim : Result ClaimText AuthFault) → IfErr claim HasAsciiName → IfErr (judged ring region head payload reading claim) HasAsciiName
       by_claim (Err fault) ascii = ascii
       by_claim (Ok claim) ascii = by_key claim (entry_with claim.authorization.credential.key ring)
@@ -127,11 +130,23 @@ content_ascii (value ∷ more) body = go (digest_of value)
     go None = tt
     go (Some said) = plain_ascii (bytes_eq (sha256 body) said) (ContentMismatch (sha256 body) said) tt
 
+fields_ascii : (route : Route) (signer : List ℕ) (head : HeadText) → IfSome (fields_refusal route signer head) HasAsciiText
+fields_ascii route signer head =
+    let tokens = values_of (codes "x-amz-security-token") head.fields in
+    let versions = values_of (codes "x-amz-glacier-version") head.fields in
+    let hash = hash_refusal (named_hashes head) in
+    two_ascii (account_refusal signer route.account) (first_of_two (token_refusal tokens) (first_of_two (version_refusal versions) hash))
+    (account_ascii signer route.account)
+    (two_ascii (token_refusal tokens) (first_of_two (version_refusal versions) hash) (token_ascii tokens)
+    (two_ascii (version_refusal versions) hash (version_ascii versions) (hash_ascii (named_hashes head))))
+
+body_ascii : (head : HeadText) (n : ℕ) (body : List ℕ) → IfSome (body_refusal head n body) HasAsciiText
+body_ascii head n body =
+    two_ascii (length_refusal n) (content_refusal (named_hashes head) body) (length_ascii n) (content_ascii (named_hashes head) body)
+
 request_ascii : (route : Route) (signer : List ℕ) (head : HeadText) (n : ℕ) (body : List ℕ) → IfSome (request_refusal route signer head n body) HasAsciiText
 request_ascii route signer head n body =
-    two_ascii (fields_refusal route signer head) (body_refusal head n body)
-    (two_ascii _ _ (account_ascii signer route.account) (two_ascii _ _ (token_ascii _) (two_ascii _ _ (version_ascii _) (hash_ascii (named_hashes head)))))
-    (two_ascii _ _ (length_ascii n) (content_ascii (named_hashes head) body))
+    two_ascii (fields_refusal route signer head) (body_refusal head n body) (fields_ascii route signer head) (body_ascii head n body)
 
 routed_ascii : (step : RouteStep) (signer : List ℕ) (head : HeadText) (n : ℕ) (body : List ℕ) → IfErr (routed_request step signer head n body) HasAsciiText
 routed_ascii (found.Route route) signer head n body =
@@ -157,9 +172,11 @@ refused_ascii config head n body reading names =
         go true = tt
         go false = tt
     need_ascii (value ∷ more) = tt
+
     by_verdict : (verdict : Verdict) → IfErr verdict HasAsciiName → IfErr (verified_request verdict head n body) HasAsciiText
     by_verdict (Ok signer) ascii = routed_ascii (route_of head) signer head n body
     by_verdict (Err fault) ascii = ascii
+
     by_need : (need : Option Refusal) → IfSome need HasAsciiText → (verdict : Verdict) → IfErr verdict HasAsciiName
         → IfErr (needed_request need verdict head n body) HasAsciiText
     by_need None x verdict y = by_verdict verdict y

@@ -1,25 +1,20 @@
 -- What a message asks for.
-use Rattle.std.proofs.Common.{◌≡◌, ℕ, ◌<◌, ◌≤◌, Bool, true, false, cond, List, [], ◌∷◌, length, Option, Some, None, Result, Ok, Err, refl, ap, sym, subst, ◌∙◌, arith}
-use Rattle.std.specs.Prelude.{IfSome, IfErr, IsAscii, bytes_eq, codes, nat_lt, ⊤}
-use Rattle.std.proofs.lemmas.Bool.{ltb-true, ltb-false}
+use Rattle.std.proofs.Common.{◌≡◌, ℕ, Bool, true, false, cond, List, [], ◌∷◌, length, Some, None, Ok, Err, refl, ap, sym, ◌∙◌}
+use Rattle.std.specs.Prelude.{nat_lt}
+use Rattle.std.proofs.lemmas.Bool.{ltb-false}
 use Rattle.hex.specs.Hex.{encode_lower}
 use Rattle.sha2.specs.Sha256.{sha256}
-use Rattle.glacier_base.specs.Digests.{digest_of}
-use Rattle.glacier_http.specs.Fields.{values_of}
-use Rattle.glacier_http.specs.View.{HeadText, HasNames}
-use Rattle.glacier_machine.specs.ContentHash.{hash_name, named_hashes, need_refusal, digest_refusal, hash_refusal, length_refusal, mismatch, content_refusal}
-use Rattle.glacier_machine.specs.Refusals.{HasAsciiText}
-use Rattle.glacier_machine.specs.Requests.{account_refusal, token_refusal, version_refusal, first_of_two, fields_refusal, body_refusal, request_refusal, unless, routed_action, action_of}
+use Rattle.glacier_http.specs.View.{HeadText}
+use Rattle.glacier_machine.specs.ContentHash.{named_hashes, need_refusal, content_refusal}
+use Rattle.glacier_machine.specs.Requests.{first_of_two, fields_refusal, body_refusal, unless, action_of}
 use Rattle.glacier_machine.specs.Routes.{route_of}
-use Rattle.glacier_machine.specs.SignedRequests.{fault_refusal, signer_of, on_account, routed_request, verified_request, needed_request, request_with, request_in, IsKept}
+use Rattle.glacier_machine.specs.SignedRequests.{signer_of, on_account, routed_request, verified_request, needed_request, request_with, request_in, IsKept}
 use Rattle.glacier_machine.specs.declared.config.Config.{Config}
 use Rattle.glacier_machine.specs.declared.content_hash.TheConstants.{MOST_BODY}
-use Rattle.glacier_machine.specs.declared.routes.Route.{Route}
 use Rattle.glacier_machine.specs.declared.routes.RouteStep.{RouteStep}
 use Rattle.glacier_machine.specs.declared.routes.RouteStep.TheVariants as found
 use Rattle.glacier_sigv4.specs.Payload.{first_or, payload_of}
 use Rattle.glacier_sigv4.specs.Verdict.{Verdict, verdict}
-use Rattle.glacier_vault.specs.declared.refusal.Refusal.{Refusal}
 use Rattle.glacier_vault.specs.declared.refusal.Refusal.TheVariants.{HashNeeded, BodyTooLong}
 
 -- a long body is refused, whatever its bytes are
@@ -63,6 +58,7 @@ same_long config head n kept whole reading long = go (named_hashes head) refl
   where
     same : body_refusal head n kept ≡ body_refusal head n whole
     same = long_body head n kept whole long
+
     go : (values : List (List ℕ)) → named_hashes head ≡ values
         → needed_request (need_refusal values n) (signer_of config head kept reading) head n kept
         ≡ needed_request (need_refusal values n) (signer_of config head whole reading) head n whole
