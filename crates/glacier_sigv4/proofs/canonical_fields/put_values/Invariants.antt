@@ -6,5 +6,5 @@ use Rattle.glacier_sigv4.proofs.canonical_fields.put_values.Given as goal
 
 abbrev pub invariant-loop-i : goal.invariant-loop-i
 invariant-loop-i g l =
-    l.fn.out.items ++ value_text l.name (g.F.FieldSource.pairs l.fields)
-    ≡ l.out.items ++ more_values l.comma (values_of l.name (drop l.i (g.F.FieldSource.pairs l.fields)))
+    l.fn.out ++ value_text l.name (g.F.FieldSource.pairs l.fields)
+    ≡ l.out ++ more_values l.comma (values_of l.name (drop l.i (g.F.FieldSource.pairs l.fields)))

@@ -8,4 +8,4 @@ pub loop-pair-init : goal.loop-pair-init
 loop-pair-init c =
     let items : canonical_pairs c.args.query.now ≡ map shown c.deref-pair-items.result.now =
     sym (ap (map shown) c.deref-pair-items.ensures.value ∙ c.in_ok-pairs.ensures) in
-    ap (λ l. c.args.out.now.items ++ l) (join_pairs (canonical_pairs c.args.query.now) ∙ ap (more_pairs false) items)
+    ap (λ l. c.args.out.now ++ l) (join_pairs (canonical_pairs c.args.query.now) ∙ ap (more_pairs false) items)

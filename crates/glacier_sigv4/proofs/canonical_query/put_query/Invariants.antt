@@ -6,4 +6,4 @@ use Rattle.glacier_sigv4.proofs.canonical_query.put_query.Given as goal
 
 abbrev pub invariant-loop-pair : goal.invariant-loop-pair
 invariant-loop-pair l =
-    l.fn.out.items ++ canonical_query l.query ≡ l.out.items ++ more_pairs l.more (map shown (drop l.pair-index l.pair-items))
+    l.fn.out ++ canonical_query l.query ≡ l.out ++ more_pairs l.more (map shown (drop l.pair-index l.pair-items))
