@@ -20,7 +20,8 @@ use Rattle.glacier_vault.specs.declared.event.Event.{Event}
 use Rattle.glacier_vault.specs.declared.refusal.Refusal.{Refusal}
 
 module _ (head : HeadText) (length : ℕ) (body : List ℕ) (request : Request) where
-  routed_by : (step : RouteStep) (signer : List ℕ) → routed_request step signer head length body ≡ Ok request → signer ≡ request.account
+  routed_by : (step : RouteStep) (signer : List ℕ) → routed_request step signer head length body ≡ Ok request
+      → signer ≡ request.account
   routed_by (found.Route route) signer is = go (routed_action route signer head length body) is
     where
       go : (action : Result Action Refusal) → on_account signer action ≡ Ok request → signer ≡ request.account
@@ -31,7 +32,8 @@ module _ (head : HeadText) (length : ℕ) (body : List ℕ) (request : Request) 
   routed_by found.BadName signer is = cc
 
   -- what is asked for is asked by the signer
-  asked_by : (need : Option Refusal) (verdict : Verdict) → needed_request need verdict head length body ≡ Ok request → verdict ≡ Ok request.account
+  asked_by : (need : Option Refusal) (verdict : Verdict) → needed_request need verdict head length body ≡ Ok request
+      → verdict ≡ Ok request.account
   asked_by (Some refusal) verdict is = cc
   asked_by None (Ok signer) is = ap (λ account. Ok account) (routed_by (route_of head) signer is)
   asked_by None (Err fault) is = cc
@@ -40,20 +42,25 @@ events_hold : (P : List ℕ → Type 0) (account : List ℕ) (m : ℕ) (event : 
     → All (λ (e : AccountEvent). P e.account) (events_of account m event)
 events_hold P account m None holds = All-nil (λ (e : AccountEvent). P e.account)
 events_hold P account m (Some event) holds =
-    All-cons (λ (e : AccountEvent). P e.account) (record { account = account; moment = m; event = event }) [] holds (All-nil (λ (e : AccountEvent). P e.account))
+    All-cons (λ (e : AccountEvent). P e.account) (record { account = account; moment = m; event = event }) [] holds
+        (All-nil (λ (e : AccountEvent). P e.account))
 
 pub events_are_signed : (config : Config) (accounts : Accounts) (message : Message) (reading : ℕ)
-    → All (λ (e : AccountEvent). IsSignedBy config message reading e.account) (one config accounts message reading).events
-events_are_signed config accounts (bad cause) reading = All-nil (λ (e : AccountEvent). IsSignedBy config (bad cause) reading e.account)
+    → All (λ (e : AccountEvent). IsSignedBy config message reading e.account)
+        (one config accounts message reading).events
+events_are_signed config accounts (bad cause) reading = All-nil
+    (λ (e : AccountEvent). IsSignedBy config (bad cause) reading e.account)
 events_are_signed config accounts (good h body) reading = go (request_in config (text_of h) body reading) refl
   where
     go : (r : Result Request Refusal) → request_in config (text_of h) body reading ≡ r
-        → All (λ (e : AccountEvent). IsSignedBy config (good h body) reading e.account) (request_outcome config accounts r reading).events
+        → All (λ (e : AccountEvent). IsSignedBy config (good h body) reading e.account)
+            (request_outcome config accounts r reading).events
     go (Err refusal) is = All-nil (λ (e : AccountEvent). IsSignedBy config (good h body) reading e.account)
     go (Ok request) is =
         events_hold (IsSignedBy config (good h body) reading) request.account _ _ (record {
           head = h;
           body = body;
           message_is = refl;
-          signer = asked_by (text_of h) _ body request (need_refusal (named_hashes (text_of h)) _) (signer_of config (text_of h) body reading) is;
+          signer = asked_by (text_of h) _ body request (need_refusal (named_hashes (text_of h)) _)
+              (signer_of config (text_of h) body reading) is;
         })

@@ -35,12 +35,14 @@ abbrev HasAsciiName : AuthFault → Type 0
 HasAsciiName fault = HasAsciiText (fault_refusal fault)
 
 module _ (fields : List (List ℕ × List ℕ)) where
-  claim_from_ascii : (authorization : Option AuthorizationText) (moment : Option ℕ) → IfErr (claim_from fields authorization moment) HasAsciiName
+  claim_from_ascii : (authorization : Option AuthorizationText) (moment : Option ℕ)
+      → IfErr (claim_from fields authorization moment) HasAsciiName
   claim_from_ascii None moment = tt
   claim_from_ascii (Some a) None = tt
   claim_from_ascii (Some a) (Some moment) = go (are_present fields (names_in a.names))
     where
-      go : (t : Bool) → IfErr {T = ClaimText} (cond t (Ok (record { authorization = a; moment = moment })) (Err fault.Malformed)) HasAsciiName
+      go : (t : Bool) → IfErr {T = ClaimText}
+          (cond t (Ok (record { authorization = a; moment = moment })) (Err fault.Malformed)) HasAsciiName
       go true = tt
       go false = tt
 
@@ -52,7 +54,8 @@ module _ (fields : List (List ℕ × List ℕ)) where
   claim_of_ascii (a ∷ second ∷ more) (date ∷ dates) = tt
 
 module _ (region : List ℕ) (head : HeadText) (names : HasNames head.fields) (payload : List ℕ) (reading : ℕ) where
-  entry_ascii : (claim : ClaimText) (entry : Entry) → IfErr (judged_entry region head payload reading claim entry) HasAsciiName
+  entry_ascii : (claim : ClaimText) (entry : Entry)
+      → IfErr (judged_entry region head payload reading claim entry) HasAsciiName
   entry_ascii claim entry =
       go (is_in_scope (basic_of claim.moment) region claim.authorization.credential)
       (first_unsigned (names_in claim.authorization.names) head.fields)
@@ -61,7 +64,9 @@ module _ (region : List ℕ) (head : HeadText) (names : HasNames head.fields) (p
     where
       go : (scope : Bool) (unsigned : Option (List ℕ)) → IfSome unsigned IsAscii → (skewed signed : Bool)
           → IfErr {T = List ℕ} (cond (not scope) (Err fault.WrongScope)
-          (unless_unsigned unsigned (cond skewed (Err (fault.Skewed claim.moment reading)) (cond (not signed) (Err fault.BadSignature) (Ok entry.keys.account)))))
+          (unless_unsigned unsigned
+              (cond skewed (Err (fault.Skewed claim.moment reading))
+              (cond (not signed) (Err fault.BadSignature) (Ok entry.keys.account)))))
           HasAsciiName
       go false unsigned ascii skewed signed = tt
       go true (Some header) ascii skewed signed = ascii
@@ -71,20 +76,24 @@ module _ (region : List ℕ) (head : HeadText) (names : HasNames head.fields) (p
 
   verdict_ascii : (ring : List Entry) → IfErr (verdict ring region head payload reading) HasAsciiName
   verdict_ascii ring = by_claim (claim_in head)
-      (claim_of_ascii head.fields (values_of (codes "authorization") head.fields) (values_of (codes "x-amz-date") head.fields))
+      (claim_of_ascii head.fields (values_of (codes "authorization") head.fields)
+          (values_of (codes "x-amz-date") head.fields))
     where
-      by_key : (claim : ClaimText) (entry : Option Entry) → IfErr (judged_key region head payload reading claim entry) HasAsciiName
+      by_key : (claim : ClaimText) (entry : Option Entry)
+          → IfErr (judged_key region head payload reading claim entry) HasAsciiName
       by_key claim None = tt
       by_key claim (Some entry) = entry_ascii claim entry
 
-      by_claim : (claim : Result ClaimText AuthFault) → IfErr claim HasAsciiName → IfErr (judged ring region head payload reading claim) HasAsciiName
+      by_claim : (claim : Result ClaimText AuthFault) → IfErr claim HasAsciiName
+          → IfErr (judged ring region head payload reading claim) HasAsciiName
       by_claim (Err fault) ascii = ascii
       by_claim (Ok claim) ascii = by_key claim (entry_with claim.authorization.credential.key ring)
 
 hash_name_ascii : IsAscii hash_name
 hash_name_ascii = ascii_by (λ b. nat_lt b 128) (λ b h. ltb-true b 128 h) hash_name refl
 
-two_ascii : (first second : Option Refusal) → IfSome first HasAsciiText → IfSome second HasAsciiText → IfSome (first_of_two first second) HasAsciiText
+two_ascii : (first second : Option Refusal) → IfSome first HasAsciiText → IfSome second HasAsciiText
+    → IfSome (first_of_two first second) HasAsciiText
 two_ascii None second x y = y
 two_ascii (Some refusal) second x y = x
 
@@ -130,29 +139,36 @@ content_ascii (value ∷ more) body = go (digest_of value)
     go None = tt
     go (Some said) = plain_ascii (bytes_eq (sha256 body) said) (ContentMismatch (sha256 body) said) tt
 
-fields_ascii : (route : Route) (signer : List ℕ) (head : HeadText) → IfSome (fields_refusal route signer head) HasAsciiText
+fields_ascii : (route : Route) (signer : List ℕ) (head : HeadText)
+    → IfSome (fields_refusal route signer head) HasAsciiText
 fields_ascii route signer head =
     let tokens = values_of (codes "x-amz-security-token") head.fields in
     let versions = values_of (codes "x-amz-glacier-version") head.fields in
     let hash = hash_refusal (named_hashes head) in
-    two_ascii (account_refusal signer route.account) (first_of_two (token_refusal tokens) (first_of_two (version_refusal versions) hash))
+    two_ascii (account_refusal signer route.account)
+        (first_of_two (token_refusal tokens) (first_of_two (version_refusal versions) hash))
     (account_ascii signer route.account)
     (two_ascii (token_refusal tokens) (first_of_two (version_refusal versions) hash) (token_ascii tokens)
     (two_ascii (version_refusal versions) hash (version_ascii versions) (hash_ascii (named_hashes head))))
 
 body_ascii : (head : HeadText) (n : ℕ) (body : List ℕ) → IfSome (body_refusal head n body) HasAsciiText
 body_ascii head n body =
-    two_ascii (length_refusal n) (content_refusal (named_hashes head) body) (length_ascii n) (content_ascii (named_hashes head) body)
+    two_ascii (length_refusal n) (content_refusal (named_hashes head) body) (length_ascii n)
+        (content_ascii (named_hashes head) body)
 
-request_ascii : (route : Route) (signer : List ℕ) (head : HeadText) (n : ℕ) (body : List ℕ) → IfSome (request_refusal route signer head n body) HasAsciiText
+request_ascii : (route : Route) (signer : List ℕ) (head : HeadText) (n : ℕ) (body : List ℕ)
+    → IfSome (request_refusal route signer head n body) HasAsciiText
 request_ascii route signer head n body =
-    two_ascii (fields_refusal route signer head) (body_refusal head n body) (fields_ascii route signer head) (body_ascii head n body)
+    two_ascii (fields_refusal route signer head) (body_refusal head n body) (fields_ascii route signer head)
+        (body_ascii head n body)
 
-routed_ascii : (step : RouteStep) (signer : List ℕ) (head : HeadText) (n : ℕ) (body : List ℕ) → IfErr (routed_request step signer head n body) HasAsciiText
+routed_ascii : (step : RouteStep) (signer : List ℕ) (head : HeadText) (n : ℕ) (body : List ℕ)
+    → IfErr (routed_request step signer head n body) HasAsciiText
 routed_ascii (found.Route route) signer head n body =
     go (request_refusal route signer head n body) (request_ascii route signer head n body)
   where
-    go : (refusal : Option Refusal) → IfSome refusal HasAsciiText → IfErr (on_account signer (unless refusal (action_of route.op))) HasAsciiText
+    go : (refusal : Option Refusal) → IfSome refusal HasAsciiText
+        → IfErr (on_account signer (unless refusal (action_of route.op))) HasAsciiText
     go None ascii = tt
     go (Some refusal) ascii = ascii
 routed_ascii found.NoRoute signer head n body = tt
@@ -173,7 +189,8 @@ refused_ascii config head n body reading names =
         go false = tt
     need_ascii (value ∷ more) = tt
 
-    by_verdict : (verdict : Verdict) → IfErr verdict HasAsciiName → IfErr (verified_request verdict head n body) HasAsciiText
+    by_verdict : (verdict : Verdict) → IfErr verdict HasAsciiName
+        → IfErr (verified_request verdict head n body) HasAsciiText
     by_verdict (Ok signer) ascii = routed_ascii (route_of head) signer head n body
     by_verdict (Err fault) ascii = ascii
 

@@ -68,7 +68,8 @@ moment_of before reading = max before.last reading
 -- the outcome of a request where the account's state is this
 abbrev pub action_outcome : Rules → AccountState → Request → ℕ → Outcome
 action_outcome rules before request reading =
-    step_outcome request.account (moment_of before reading) (step_of rules (moment_of before reading) request.action before)
+    step_outcome request.account (moment_of before reading)
+    (step_of rules (moment_of before reading) request.action before)
 
 -- what holds for the requests of an account
 abbrev pub rules_of : Config → List ℕ → Rules

@@ -38,7 +38,8 @@ on_account account (Err refused) = Err refused
 
 -- what a signer's head asks for, by its route
 abbrev pub routed_request : RouteStep → List ℕ → HeadText → ℕ → List ℕ → Result Request Refusal
-routed_request (found.Route route) signer head length body = on_account signer (routed_action route signer head length body)
+routed_request (found.Route route) signer head length body =
+    on_account signer (routed_action route signer head length body)
 routed_request found.NoRoute signer head length body = Err refusal.NoRoute
 routed_request found.BadName signer head length body = Err refusal.BadName
 

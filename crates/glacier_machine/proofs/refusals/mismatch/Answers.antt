@@ -13,8 +13,10 @@ ascii_text-said-requires c = rw c.text-said.ensures.text (hex_is_ascii c.args.sa
 
 pub returns : goal.returns
 returns c =
-    IfOk-weaker c.format.result _ _ (λ text is. is ∙ formatted (encode_lower c.args.found.now) (encode_lower c.args.said.now))
-    (rw (c.ascii_text-found.ensures, c.text-found.ensures.text, c.ascii_text-said.ensures, c.text-said.ensures.text) at c.format.ensures.ok)
+    IfOk-weaker c.format.result _ _
+    (λ text is. is ∙ formatted (encode_lower c.args.found.now) (encode_lower c.args.said.now))
+    (rw (c.ascii_text-found.ensures, c.text-found.ensures.text, c.ascii_text-said.ensures, c.text-said.ensures.text)
+    at c.format.ensures.ok)
   where
     formatted : (found said : List ℕ) → codes "Content hash is " ++ (found ++ (codes ", not " ++ (said ++ codes ".")))
         ≡ codes "Content hash is " ++ found ++ codes ", not " ++ said ++ codes "."

@@ -10,12 +10,14 @@ use Rattle.glacier_machine.proofs.signed_requests.read_request.Goals as goal
 pub returns-clause-request : goal.returns-clause-request
 returns-clause-request c whole is kept =
     IfOk-weaker c.read.result _ _
-    (λ r same. same ∙ kept_is_enough c.args.config.now c.args.head.now c.args.content_length c.args.body.now whole c.args.reading is kept)
+    (λ r same. same
+    ∙ kept_is_enough c.args.config.now c.args.head.now c.args.content_length c.args.body.now whole c.args.reading is kept)
     c.read.ensures
 
 pub returns-clause-ascii : goal.returns-clause-ascii
 returns-clause-ascii c =
     IfOk-weaker c.read.result _ _
     (λ r same. subst (λ s. IfErr s HasAsciiText) (sym same)
-    (refused_ascii c.args.config.now c.args.head.now c.args.content_length c.args.body.now c.args.reading c.count-names.ensures.names))
+    (refused_ascii c.args.config.now c.args.head.now c.args.content_length c.args.body.now c.args.reading
+    c.count-names.ensures.names))
     c.read.ensures

@@ -13,4 +13,5 @@ returns-in-One c =
 
 pub returns-in-Many : goal.returns-in-Many
 returns-in-Many c =
-    rw (payload_named c.args.head.now c.args.body.now c.in-Many.named.now _ c.in-Many.ensures.2) c.verify-in-Many.ensures
+    rw (payload_named c.args.head.now c.args.body.now c.in-Many.named.now _ c.in-Many.ensures.2)
+    c.verify-in-Many.ensures
