@@ -43,18 +43,18 @@ events_hold : (P : List ℕ → Type 0) (account : List ℕ) (m : ℕ) (event : 
 events_hold P account m None holds = All-nil (λ (e : AccountEvent). P e.account)
 events_hold P account m (Some event) holds =
     All-cons (λ (e : AccountEvent). P e.account) (record { account = account; moment = m; event = event }) [] holds
-        (All-nil (λ (e : AccountEvent). P e.account))
+    (All-nil (λ (e : AccountEvent). P e.account))
 
 pub events_are_signed : (config : Config) (accounts : Accounts) (message : Message) (reading : ℕ)
     → All (λ (e : AccountEvent). IsSignedBy config message reading e.account)
-        (one config accounts message reading).events
+    (one config accounts message reading).events
 events_are_signed config accounts (bad cause) reading = All-nil
     (λ (e : AccountEvent). IsSignedBy config (bad cause) reading e.account)
 events_are_signed config accounts (good h body) reading = go (request_in config (text_of h) body reading) refl
   where
     go : (r : Result Request Refusal) → request_in config (text_of h) body reading ≡ r
         → All (λ (e : AccountEvent). IsSignedBy config (good h body) reading e.account)
-            (request_outcome config accounts r reading).events
+        (request_outcome config accounts r reading).events
     go (Err refusal) is = All-nil (λ (e : AccountEvent). IsSignedBy config (good h body) reading e.account)
     go (Ok request) is =
         events_hold (IsSignedBy config (good h body) reading) request.account _ _ (record {

@@ -57,7 +57,7 @@ least_is_ascii None (b ∷ names) some all = least_is_ascii (Some b) names (All-
     (All-tail IsAscii b names all)
 least_is_ascii (Some a) (b ∷ names) some all =
     least_is_ascii (Some (lesser a b)) names (lesser_is_ascii a b some (All-head IsAscii b names all))
-        (All-tail IsAscii b names all)
+    (All-tail IsAscii b names all)
 
 pub first_is_ascii : (names : List (List ℕ)) (fields : List (List ℕ × List ℕ)) → HasNames fields
     → IfSome (first_unsigned names fields) IsAscii

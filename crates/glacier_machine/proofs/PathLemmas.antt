@@ -30,7 +30,7 @@ pieces_lack (b ∷ path) = go (eqb b 47) refl (pieces path) (pieces_lack path)
     go false is (p ∷ ps) lack =
         let parts = and_parts (lacks 47 p) (list_all (lacks 47) ps) lack in
         and_from (lacks 47 (b ∷ p)) (list_all (lacks 47) ps)
-            (and_from (not (eqb b 47)) (lacks 47 p) (ap not is) parts.0) parts.1
+        (and_from (not (eqb b 47)) (lacks 47 p) (ap not is) parts.0) parts.1
 
 -- the path of a vault is these pieces, joined by slashes
 location_joined : (word name : List ℕ) → location word name ≡ join_with_byte 47 ([] ∷ word ∷ codes "vaults" ∷ name ∷ [])

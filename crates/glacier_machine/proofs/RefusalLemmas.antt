@@ -65,8 +65,8 @@ module _ (region : List ℕ) (head : HeadText) (names : HasNames head.fields) (p
       go : (scope : Bool) (unsigned : Option (List ℕ)) → IfSome unsigned IsAscii → (skewed signed : Bool)
           → IfErr {T = List ℕ} (cond (not scope) (Err fault.WrongScope)
           (unless_unsigned unsigned
-              (cond skewed (Err (fault.Skewed claim.moment reading))
-              (cond (not signed) (Err fault.BadSignature) (Ok entry.keys.account)))))
+          (cond skewed (Err (fault.Skewed claim.moment reading))
+          (cond (not signed) (Err fault.BadSignature) (Ok entry.keys.account)))))
           HasAsciiName
       go false unsigned ascii skewed signed = tt
       go true (Some header) ascii skewed signed = ascii
@@ -77,7 +77,7 @@ module _ (region : List ℕ) (head : HeadText) (names : HasNames head.fields) (p
   verdict_ascii : (ring : List Entry) → IfErr (verdict ring region head payload reading) HasAsciiName
   verdict_ascii ring = by_claim (claim_in head)
       (claim_of_ascii head.fields (values_of (codes "authorization") head.fields)
-          (values_of (codes "x-amz-date") head.fields))
+      (values_of (codes "x-amz-date") head.fields))
     where
       by_key : (claim : ClaimText) (entry : Option Entry)
           → IfErr (judged_key region head payload reading claim entry) HasAsciiName
@@ -146,7 +146,7 @@ fields_ascii route signer head =
     let versions = values_of (codes "x-amz-glacier-version") head.fields in
     let hash = hash_refusal (named_hashes head) in
     two_ascii (account_refusal signer route.account)
-        (first_of_two (token_refusal tokens) (first_of_two (version_refusal versions) hash))
+    (first_of_two (token_refusal tokens) (first_of_two (version_refusal versions) hash))
     (account_ascii signer route.account)
     (two_ascii (token_refusal tokens) (first_of_two (version_refusal versions) hash) (token_ascii tokens)
     (two_ascii (version_refusal versions) hash (version_ascii versions) (hash_ascii (named_hashes head))))
@@ -154,13 +154,13 @@ fields_ascii route signer head =
 body_ascii : (head : HeadText) (n : ℕ) (body : List ℕ) → IfSome (body_refusal head n body) HasAsciiText
 body_ascii head n body =
     two_ascii (length_refusal n) (content_refusal (named_hashes head) body) (length_ascii n)
-        (content_ascii (named_hashes head) body)
+    (content_ascii (named_hashes head) body)
 
 request_ascii : (route : Route) (signer : List ℕ) (head : HeadText) (n : ℕ) (body : List ℕ)
     → IfSome (request_refusal route signer head n body) HasAsciiText
 request_ascii route signer head n body =
     two_ascii (fields_refusal route signer head) (body_refusal head n body) (fields_ascii route signer head)
-        (body_ascii head n body)
+    (body_ascii head n body)
 
 routed_ascii : (step : RouteStep) (signer : List ℕ) (head : HeadText) (n : ℕ) (body : List ℕ)
     → IfErr (routed_request step signer head n body) HasAsciiText

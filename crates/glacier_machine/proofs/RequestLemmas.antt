@@ -71,9 +71,9 @@ same_long config head n kept whole reading long = go (named_hashes head) refl
         ≡ needed_request (need_refusal values n) (signer_of config head whole reading) head n whole
     go [] named =
         ap (λ t. needed_request (cond t (Some (HashNeeded n)) None)
-            (signer_of config head kept reading) head n kept) long
+        (signer_of config head kept reading) head n kept) long
         ∙ sym (ap (λ t. needed_request (cond t (Some (HashNeeded n)) None)
-            (signer_of config head whole reading) head n whole) long)
+        (signer_of config head whole reading) head n whole) long)
     go (value ∷ more) named =
         ap (λ v. verified_request v head n kept) (same_signer config head kept whole reading value more named)
         ∙ same_verified (signer_of config head whole reading) head n kept whole same

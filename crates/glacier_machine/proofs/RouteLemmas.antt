@@ -82,7 +82,7 @@ module _ (head : HeadText) where
       ∙ ap (account_route head.method name) (word_names word route.account asks.path.1)
       ∙ ap (op_route route.account name) op.1
       ∙ ap (λ o. cond (is_vault_name name)
-          (found.Route (record { account = route.account; op = o })) found.BadName) op.2
+      (found.Route (record { account = route.account; op = o })) found.BadName) op.2
 
   -- each head asks for something, or has no route
   asked : (route_of head ≡ found.NoRoute) ⊎ ((route : Route) × (name : List ℕ) × AsksFor head route name)
@@ -108,13 +108,13 @@ module _ (head : HeadText) where
       by_account : (path : List ℕ × List ℕ) → vault_path (pieces head.path) ≡ Some path
           → (account : Option (Option (List ℕ))) → account_of path.0 ≡ account
           → (account_route head.method path.1 account ≡ found.NoRoute) ⊎
-              ((route : Route) × (name : List ℕ) × AsksFor head route name)
+          ((route : Route) × (name : List ℕ) × AsksFor head route name)
       by_account path p None a = inl refl
       by_account path p (Some account) a = by_op path p account a (vault_op head.method) refl
 
       by_path : (path : Option (List ℕ × List ℕ)) → vault_path (pieces head.path) ≡ path
           → (path_route head.method path ≡ found.NoRoute) ⊎
-              ((route : Route) × (name : List ℕ) × AsksFor head route name)
+          ((route : Route) × (name : List ℕ) × AsksFor head route name)
       by_path None p = inl refl
       by_path (Some path) p = by_account path p (account_of path.0) refl
 
@@ -141,7 +141,7 @@ module _ (head : HeadText) where
     where
       there : (route_of head ≡ found.NoRoute) ⊎ ((r : Route) × (name : List ℕ) × AsksFor head r name)
           → route_of head ≡ found.BadName
-              → (route : Route) × (name : List ℕ) × AsksFor head route name × (¬ IsTrue (is_vault_name name))
+          → (route : Route) × (name : List ℕ) × AsksFor head route name × (¬ IsTrue (is_vault_name name))
       there (inl none) is = let other : found.NoRoute ≡ found.BadName = sym none ∙ is in cc
       there (inr asks) is = (
         asks.0,
@@ -150,7 +150,7 @@ module _ (head : HeadText) where
         λ t.
             let other : found.Route asks.0 ≡ found.BadName =
             sym (ap (λ t. cond t (found.Route asks.0) found.BadName) t) ∙ sym (asked_step asks.0 asks.1 asks.2)
-                ∙ is in cc,
+            ∙ is in cc,
       )
 
       back : (route : Route) × (name : List ℕ) × AsksFor head route name × (¬ IsTrue (is_vault_name name))
@@ -174,6 +174,6 @@ module _ (head : HeadText) where
 
       back : ((route : Route) (name : List ℕ) → ¬ (AsksFor head route name))
           → (route_of head ≡ found.NoRoute) ⊎ ((route : Route) × (name : List ℕ) × AsksFor head route name)
-              → route_of head ≡ found.NoRoute
+          → route_of head ≡ found.NoRoute
       back none (inl is) = is
       back none (inr asks) = absurd (none asks.0 asks.1 asks.2)
