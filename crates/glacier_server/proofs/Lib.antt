@@ -4,6 +4,7 @@ mod AnswerLemmas
 mod CommitLemmas
 mod ConnectionLemmas
 mod CutLemmas
+mod EndLemmas
 mod EventLemmas
 mod Examples
 mod ExchangeLemmas
