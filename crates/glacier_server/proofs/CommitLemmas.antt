@@ -8,7 +8,7 @@ use Rattle.glacier_machine.specs.declared.config.Config.{Config}
 use Rattle.glacier_server.specs.Acts.{Act, send, sends, keeps}
 use Rattle.glacier_server.specs.Machine.{State, reply, after, happened}
 use Rattle.glacier_server.specs.Out.{done}
-use Rattle.glacier_server.specs.Session.{Session, acting}
+use Rattle.glacier_server.specs.Session.{acting}
 use Rattle.glacier_server.specs.Transfer.{Transfer, SentAll, SentPart, nothing, sending}
 use Rattle.glacier_server.proofs.StepLemmas.{keeps_all}
 use Rattle.glacier_server.proofs.TransferLemmas.{says, leads, acts_then}

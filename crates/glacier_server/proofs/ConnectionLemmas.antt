@@ -79,22 +79,24 @@ module _ {config : Config} {a : Told} {state : State} where
     -- the end
     pub served_last : {c : Told} {to : Standing} {e : End} → Exchanges config from to b c (Some e)
         → ServedLast config a c state to.state e
-    served_last {c = c} {to = to} {e = e} y = record {
-      session = joined x.session y.session;
-      starts = x.starts;
-      leaves = y.leaves;
-      transfer = then x.session y.session (leads y.session y.starts) x.transfer y.transfer;
-      served = served config x.session y.session from x.so_far y.starts to.unread
-          (current c.connections).coming e y.exchange;
-      prompt = prompt_then y.session y.starts y.idle;
-    }
+    served_last {c = c} {to = to} {e = e} y =
+        let moves = then x.session y.session (leads y.session y.starts) x.transfer y.transfer in record {
+          session = joined x.session y.session;
+          starts = x.starts;
+          leaves = y.leaves;
+          transfer = moves;
+          served = served config x.session y.session from x.so_far y.starts to.unread
+              (current c.connections).coming e y.exchange moves.does.after_is;
+          prompt = prompt_then y.session y.starts y.idle;
+        }
 
     -- no memory for one more
     pub part_last : {c : Told} → BreaksOff config from b c → PartLast config a c state
-    part_last y = record {
-      session = joined x.session y.session;
-      starts = x.starts;
-      transfer = then x.session y.session (leads y.session y.starts) x.transfer y.transfer;
-      part = breaks config x.session y.session from x.so_far y.starts [] [] y.part;
-      prompt = prompt_then y.session y.starts y.idle;
-    }
+    part_last y =
+        let moves = then x.session y.session (leads y.session y.starts) x.transfer y.transfer in record {
+          session = joined x.session y.session;
+          starts = x.starts;
+          transfer = moves;
+          part = breaks config x.session y.session from x.so_far y.starts [] [] y.part moves.does.after_is;
+          prompt = prompt_then y.session y.starts y.idle;
+        }

@@ -1,5 +1,5 @@
 -- The ends that messages make, and what is done for a bad head.
-use Rattle.std.proofs.Common.{◌≡◌, ℕ, ◌+◌, ◌⊎◌, Bool, true, false, List, [], ◌∷◌, ◌++◌, take, Some, None, inl, inr, refl, sym, ap, subst, ◌∙◌, append-nil}
+use Rattle.std.proofs.Common.{◌≡◌, ℕ, ◌+◌, Bool, true, false, List, [], ◌∷◌, ◌++◌, take, Some, None, inl, refl, sym, ap, subst, ◌∙◌, append-nil}
 use Rattle.std.specs.Prelude.{Option, if◌then◌else◌, ◌==◌}
 use Rattle.std.specs.Option.{is_some}
 use Rattle.glacier_disk.specs.Network.{Wait}

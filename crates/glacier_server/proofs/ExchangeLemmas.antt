@@ -1,5 +1,5 @@
 -- What was taken for a head, and then an exchange.
-use Rattle.std.proofs.Common.{◌≡◌, ℕ, List, [], ◌∷◌, ◌++◌, Some, inr, refl, sym, ap, subst, ◌∙◌, arith, append_assoc, append-nil}
+use Rattle.std.proofs.Common.{◌≡◌, ℕ, List, [], ◌∷◌, ◌++◌, Some, inr, refl, sym, ap, subst, ◌∙◌, arith, append_assoc}
 use Rattle.std.specs.Prelude.{Option}
 use Rattle.glacier_disk.specs.Network.{Wait, wait_of}
 use Rattle.glacier_disk.specs.Told.{Told}
@@ -8,11 +8,11 @@ use Rattle.glacier_http.specs.Messages.{end_of_rest}
 use Rattle.glacier_http.proofs.BeginLemmas.{none_waits}
 use Rattle.glacier_machine.specs.declared.config.Config.{Config}
 use Rattle.glacier_server.specs.declared.end.End.{End}
-use Rattle.glacier_server.specs.declared.end.End.TheVariants.{Closed, Cut, ReadFault}
+use Rattle.glacier_server.specs.declared.end.End.TheVariants.{ReadFault}
 use Rattle.glacier_server.specs.Exchange.{Standing, standing, Exchange, exchange_on, Idles, IsExchange, AnswersPart, Exchanges, BreaksOff, end_for}
 use Rattle.glacier_server.specs.Machine.{State}
 use Rattle.glacier_server.specs.Served.{failing_of}
-use Rattle.glacier_server.specs.Session.{Session, taking, wait_after, IsFrontOf, HeldAt, HeldWaiting}
+use Rattle.glacier_server.specs.Session.{Session, taking, HeldAt, HeldWaiting}
 use Rattle.glacier_server.specs.Transfer.{TakenAt, TakesBehind, Failing, nothing, receiving, NoneComing, current}
 use Rattle.glacier_server.proofs.SessionLemmas.{joined, all_more, same_wait, held_then}
 use Rattle.glacier_server.proofs.TransferLemmas.{then, moved, fails_as}

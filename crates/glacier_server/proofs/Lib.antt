@@ -9,9 +9,11 @@ mod EventLemmas
 mod Examples
 mod ExchangeLemmas
 mod ExtentLemmas
+mod KeepLemmas
 mod ListLemmas
 mod MessageLemmas
 mod OutLemmas
+mod RefuseLemmas
 mod ReplyLemmas
 mod RunLemmas
 mod RunOneLemmas

@@ -1,5 +1,5 @@
 -- Connections that were served, one after another.
-use Rattle.std.proofs.Common.{◌≡◌, ◌⊎◌, ℕ, ◌+◌, ◌≤◌, List, [], ◌∷◌, ◌++◌, length, inl, inr, refl, sym, ap, subst, true, false, ◌∙◌, arith, length-append, append-nil, append_assoc}
+use Rattle.std.proofs.Common.{◌≡◌, ℕ, ◌+◌, ◌≤◌, List, [], ◌∷◌, ◌++◌, refl, sym, ap, subst, ◌∙◌, arith, length-append, append-nil, append_assoc}
 use Rattle.std.specs.Prelude.{Bool, Result}
 use Rattle.glacier_disk.specs.Calls.{AcceptCall, HangUpCall}
 use Rattle.glacier_disk.specs.Network.{Connection, Wait, accepted, sent_on, wait_of}
@@ -11,11 +11,11 @@ use Rattle.glacier_server.specs.declared.end.ServeFault.{ServeFault}
 use Rattle.glacier_server.specs.declared.end.ServeFault.TheVariants.{Memory, Accept}
 use Rattle.glacier_server.specs.Acts.{Act, accept, bytes_of}
 use Rattle.glacier_server.specs.Machine.{State}
-use Rattle.glacier_server.specs.Served.{Served, ServedLast, PartLast, IsPrompt, failing_of}
-use Rattle.glacier_server.specs.Serving.{IsSessionOf, begun, ServedOne, ServedAll, acts_of, readings_of, Comes, Serves, BreaksLast, ServedTill, Breaks, JustAccepted, ServesOn}
+use Rattle.glacier_server.specs.Served.{ServedLast, PartLast, IsPrompt}
+use Rattle.glacier_server.specs.Serving.{IsSessionOf, begun, ServedAll, acts_of, readings_of, Comes, Serves, BreaksLast, ServedTill, Breaks, JustAccepted}
 use Rattle.glacier_server.specs.Session.{Session}
 use Rattle.glacier_server.specs.Transfer.{Does, Transfer, Failing, nothing, receiving, sending, breaking, Fails, current, others}
-use Rattle.glacier_server.proofs.ActLemmas.{does_nothing, does_then, does_says, does_quiet, does_accept}
+use Rattle.glacier_server.proofs.ActLemmas.{does_then, does_says, does_quiet, does_accept}
 use Rattle.glacier_server.proofs.StepLemmas.{current-snoc, others-snoc}
 
 served-append : (config : Config) (cs ds : List Connection) (ss ts : List Session) (state mid new : State)
@@ -242,18 +242,3 @@ module _ (old start done new : Told) {state : State} (opens : JustAccepted old s
       prompt = subst (λ (w : Wait). IsPrompt config w x.session) begins x.prompt;
     };
   }
-
--- what is kept, on every form
-pub on_self : (s : Told) → s.connected ≡ false → s.listener.listening ≡ true → ServesOn s s
-on_self s free listening = record { free = free; listening = listening; addresses = refl; folders = refl; accepts = omega arith; receives = omega arith; sends = omega arith }
-
-pub on_then : {a b c : Told} → ServesOn a b → ServesOn b c → ServesOn a c
-on_then first second = record {
-  free = second.free;
-  listening = second.listening;
-  addresses = second.addresses ∙ first.addresses;
-  folders = second.folders ∙ first.folders;
-  accepts = omega (arith, first.accepts, second.accepts);
-  receives = omega (arith, first.receives, second.receives);
-  sends = omega (arith, first.sends, second.sends);
-}

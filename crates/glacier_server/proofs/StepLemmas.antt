@@ -1,5 +1,5 @@
 -- What one call does on the last connection.
-use Rattle.std.proofs.Common.{◌≡◌, ℕ, ◌+◌, List, [], ◌∷◌, ◌++◌, length, take, refl, sym, ap, subst, ◌∙◌, arith, append-nil}
+use Rattle.std.proofs.Common.{◌≡◌, ℕ, List, [], ◌∷◌, ◌++◌, length, take, refl, sym, ap, subst, ◌∙◌, arith, append-nil}
 use Rattle.std.specs.Prelude.{Result, Ok, Err}
 use Rattle.std.proofs.lemmas.List.Elements.{All-nil, All-cons}
 use Rattle.glacier_disk.specs.Calls.{ReceiveCall, Receives, SendCall, NowCall, SendsAll, SendsFirst}
@@ -7,7 +7,7 @@ use Rattle.glacier_disk.specs.Network.{Connection, Wait, OnLast, Takes as TakesS
 use Rattle.glacier_disk.specs.Told.{Told}
 use Rattle.glacier_disk.proofs.Connections.{sent_same, sent_more}
 use Rattle.glacier_machine.specs.Outcomes.{AccountEvent, after_all}
-use Rattle.glacier_server.specs.Acts.{Act, sends as acts, keeps as acts_of, bytes_of}
+use Rattle.glacier_server.specs.Acts.{sends as acts, keeps as acts_of, bytes_of}
 use Rattle.glacier_server.specs.Machine.{State}
 use Rattle.glacier_server.specs.Session.{Session, taking, reading, acting}
 use Rattle.glacier_server.specs.Transfer.{Does, Transfer, TakenAt, Takes, SentAll, SentPart, Failing, nothing, receiving, sending, receiving_if, received, Fails, current, others}

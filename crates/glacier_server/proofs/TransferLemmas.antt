@@ -1,5 +1,5 @@
 -- Stretches of calls on the last connection, one after another.
-use Rattle.std.proofs.Common.{◌≡◌, ℕ, ◌+◌, ◌<◌, ◌≤◌, List, [], ◌∷◌, ◌++◌, length, take, refl, sym, ap, subst, ◌∙◌, arith, append-nil, append_assoc, length-append, true}
+use Rattle.std.proofs.Common.{◌≡◌, ℕ, ◌+◌, ◌<◌, List, [], ◌++◌, length, take, refl, sym, ap, subst, ◌∙◌, arith, append-nil, append_assoc, length-append}
 use Rattle.std.specs.Prelude.{min}
 use Rattle.std.specs.FinMap as map
 use Rattle.std.proofs.lemmas.List.{take_min, take-append-le}
@@ -11,7 +11,7 @@ use Rattle.glacier_disk.specs.Told.{Told}
 use Rattle.glacier_server.specs.Acts.{Act, sends, bytes_of}
 use Rattle.glacier_server.specs.Machine.{State}
 use Rattle.glacier_server.specs.Session.{Session, taking, acting, wait_after}
-use Rattle.glacier_server.specs.Transfer.{Does, Transfer, TakenAt, Takes, TakesBehind, TakesOf, SentAll, SentPart, Failing, nothing, receiving, sending, breaking, Fails, Counts, Keeps, current}
+use Rattle.glacier_server.specs.Transfer.{Does, Transfer, TakenAt, Takes, TakesBehind, TakesOf, SentAll, SentPart, Failing, nothing, receiving, sending, breaking, Fails, current}
 use Rattle.glacier_server.proofs.ActLemmas.{bytes_of-append, sends-append, does_nothing, does_then}
 use Rattle.glacier_server.proofs.SessionLemmas.{joined, all_more, same_wait}
 
@@ -226,36 +226,3 @@ part_front first more (n, one) =
       λ state. says (acting state state (sends (take n first))) (sends (take k (first ++ more))) (ap sends same)
           (one state),
     )
-
--- what is kept, on every form
-pub keeps_self : (s : Told) → s.connected ≡ true → Keeps s s nothing
-keeps_self s is = record {
-  connected = is;
-  listener = refl;
-  folders = refl;
-  receives = omega arith;
-  sends = omega arith;
-  counts = (refl, refl);
-}
-
-counts_then : (failing : Failing) (a b c : Told) → Counts nothing a b → Counts failing b c → Counts failing a c
-counts_then nothing a b c first second = (second.0 ∙ first.0, second.1 ∙ first.1)
-counts_then receiving a b c first second = (second.0 ∙ ap one_more first.0, second.1 ∙ first.1)
-counts_then sending a b c first second = (second.0 ∙ first.0, second.1 ∙ ap one_more first.1)
-counts_then breaking a b c first second = (second.0 ∙ first.0, second.1 ∙ first.1)
-
-pub keeps_then : {failing : Failing} {a b c : Told} → Keeps a b nothing → Keeps b c failing → Keeps a c failing
-keeps_then {failing = failing} {a = a} {b = b} {c = c} first second = record {
-  connected = second.connected;
-  listener = second.listener ∙ first.listener;
-  folders = second.folders ∙ first.folders;
-  receives = omega (arith, first.receives, second.receives);
-  sends = omega (arith, first.sends, second.sends);
-  counts = counts_then failing a b c first.counts second.counts;
-}
-
-pub keeps_as : {a b : Told} (failing : Failing) {other : Failing} → failing ≡ other → Keeps a b failing
-    → Keeps a b other
-keeps_as {a = a} {b = b} failing same x = subst (λ (f : Failing). Keeps a b f) same x
-
-pub ruleset kept = (keeps_then, keeps_self)

@@ -66,7 +66,7 @@ fn ended(unread: &ReadBuffer) -> End
 
 impl Service<'_> {
     /// Answers a bad head, which ends the connection.
-    #[tactic(auto, using(crate::proofs::TransferLemmas::kept))]
+    #[tactic(auto, using(crate::proofs::KeepLemmas::kept))]
     fn refuse<S: Station>(
         &self,
         station: &mut S,
@@ -99,7 +99,7 @@ impl Service<'_> {
     }
 
     /// Answers the message whose good head stands at the front of the unread bytes.
-    #[tactic(auto, using(crate::proofs::TransferLemmas::kept))]
+    #[tactic(auto, using(crate::proofs::KeepLemmas::kept))]
     fn answer<S: Station>(
         &self,
         station: &mut S,
@@ -152,7 +152,7 @@ impl Service<'_> {
     }
 
     /// Takes and answers one message more, or finds that there is none.
-    #[tactic(auto, using(crate::proofs::TransferLemmas::kept))]
+    #[tactic(auto, using(crate::proofs::KeepLemmas::kept))]
     pub fn one_message<S: Station>(
         &self,
         station: &mut S,

@@ -2,7 +2,8 @@ use Rattle.std.proofs.Common.{ℕ, List, subst}
 use Rattle.glacier_http.specs.Opening.{HasNoOpening}
 use Rattle.glacier_http.specs.Step.{IsStep}
 use Rattle.glacier_http.specs.declared.head_spans.HeadStep.TheVariants as step
-use Rattle.glacier_server.proofs.TransferLemmas.{behind_none, behind_more, keeps_self, keeps_then}
+use Rattle.glacier_server.proofs.KeepLemmas.{keeps_self, keeps_then}
+use Rattle.glacier_server.proofs.TransferLemmas.{behind_none, behind_more}
 use Rattle.glacier_server.proofs.next_head.next_head.Goals as goal
 
 pub returns-in-Head-clause-found : goal.returns-in-Head-clause-found

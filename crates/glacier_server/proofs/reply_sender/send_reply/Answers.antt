@@ -1,6 +1,5 @@
-use Rattle.std.proofs.Common.{◌≡◌, ◌++◌, ◌∙◌, List, ℕ, Bool, true, false, take, [], refl, sym, ap, subst, append-nil}
+use Rattle.std.proofs.Common.{◌++◌, ◌∙◌, List, ℕ, Bool, take, [], sym, ap, subst, append-nil}
 use Rattle.std.specs.Prelude.{if◌then◌else◌}
-use Rattle.glacier_server.specs.Machine.{text_of_reply}
 use Rattle.glacier_server.specs.Transfer.{SentAll, SentPart}
 use Rattle.glacier_server.proofs.StepLemmas.{sent_all, sent_part}
 use Rattle.glacier_server.proofs.TransferLemmas.{sent_then, part_then, part_front}

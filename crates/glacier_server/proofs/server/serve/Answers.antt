@@ -1,6 +1,7 @@
 use Rattle.std.proofs.Common.{subst, ℕ, arith, refl, inl, inr, ◌∙◌}
 use Rattle.glacier_server.specs.Serving.{Serves}
-use Rattle.glacier_server.proofs.ServingLemmas.{serves_nothing, serves_then, breaks_then, on_self, on_then}
+use Rattle.glacier_server.proofs.KeepLemmas.{on_self, on_then}
+use Rattle.glacier_server.proofs.ServingLemmas.{serves_nothing, serves_then, breaks_then}
 use Rattle.glacier_server.proofs.server.serve.Goals as goal
 
 pub returns-in-Err-clause-broken : goal.returns-in-Err-clause-broken

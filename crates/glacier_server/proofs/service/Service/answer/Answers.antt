@@ -1,6 +1,5 @@
 use Rattle.std.proofs.Common.{rules, ◌≡◌, ◌≤◌, sym, subst, refl, ℕ, arith}
 use Rattle.std.specs.Option.{is_some}
-use Rattle.glacier_disk.specs.Told.{Told}
 use Rattle.glacier_server.specs.Exchange.{standing}
 use Rattle.glacier_server.proofs.ExtentLemmas.{extends_by, head_fits, good_of}
 use Rattle.glacier_server.proofs.MessageLemmas.{body_failed, body_cut, reply_unmade, reply_sent, reply_unsent}

@@ -1,5 +1,5 @@
 use Rattle.std.proofs.Common.{refl}
-use Rattle.glacier_server.proofs.MessageLemmas.{refused_unmade, refused_sent, refused_unsent}
+use Rattle.glacier_server.proofs.RefuseLemmas.{refused_unmade, refused_sent, refused_unsent}
 use Rattle.glacier_server.proofs.StepLemmas.{reads}
 use Rattle.glacier_server.proofs.service.Service.refuse.Goals as goal
 

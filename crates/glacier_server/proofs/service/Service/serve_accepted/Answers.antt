@@ -1,4 +1,4 @@
-use Rattle.std.proofs.Common.{◌≡◌, ◌∙◌, ◌+◌, ap, sym, subst}
+use Rattle.std.proofs.Common.{◌∙◌, ◌+◌, ap, sym, subst}
 use Rattle.glacier_disk.specs.Told.{Listener}
 use Rattle.glacier_server.specs.declared.end.ServeFault.{ServeFault}
 use Rattle.glacier_server.specs.Serving.{Breaks}

@@ -1,6 +1,6 @@
-use Rattle.std.proofs.Common.{rules, refl, arith}
+use Rattle.std.proofs.Common.{rules, refl}
 use Rattle.glacier_server.proofs.ConnectionLemmas.{at_start, one_more_last, served_last, part_last}
-use Rattle.glacier_server.proofs.TransferLemmas.{keeps_self, keeps_then}
+use Rattle.glacier_server.proofs.KeepLemmas.{keeps_self, keeps_then}
 use Rattle.glacier_server.proofs.service.Service.serve_open.Goals as goal
 
 pub messages-init : goal.messages-init
