@@ -14,8 +14,6 @@ mod requests;
 mod routes;
 mod routing;
 mod steps;
-#[cfg(test)]
-mod tests;
 
 pub use action::{Action, Answer, Request};
 pub use config::Config;

@@ -10,12 +10,24 @@ mod hmac_tests;
 #[cfg(test)]
 mod host_disk_tests;
 #[cfg(test)]
+mod http_reply_tests;
+#[cfg(test)]
+mod http_tests;
+#[cfg(test)]
+mod machine_tests;
+#[cfg(test)]
 mod map_tests;
 #[cfg(test)]
 mod outside_tests;
 #[cfg(test)]
 mod plans;
 #[cfg(test)]
+mod server_tests;
+#[cfg(test)]
+mod sigv4_tests;
+#[cfg(test)]
 mod stop_tests;
 #[cfg(test)]
 mod treehash_tests;
+#[cfg(test)]
+mod vault_tests;
