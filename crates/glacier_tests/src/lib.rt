@@ -22,10 +22,6 @@ mod outside_tests;
 #[cfg(test)]
 mod plans;
 #[cfg(test)]
-mod server_tests;
-#[cfg(test)]
-mod sigv4_tests;
-#[cfg(test)]
 mod stop_tests;
 #[cfg(test)]
 mod treehash_tests;
