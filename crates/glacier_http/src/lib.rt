@@ -17,13 +17,9 @@ mod put;
 mod query;
 mod reply;
 pub mod reply_laws;
-#[cfg(test)]
-mod reply_tests;
 mod room;
 mod span;
 mod target;
-#[cfg(test)]
-mod tests;
 mod tokens;
 
 pub use bad_head::BadHead;
