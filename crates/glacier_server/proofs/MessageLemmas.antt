@@ -122,6 +122,7 @@ module _ (config : Config) (from : Standing) (headers : List HeaderSpan) (spans 
             starts = refl;
             transfer = breaks_off (answering from.state from.state takes.got [] r takes.takes.waits) (took takes);
             part = answered_part config from headers spans used left r is extends takes.got end 0 whole refl [] [] from.state takes.takes.waits;
+            nothing = refl;
             idle = idle takes from.state [];
           }
 
