@@ -12,7 +12,7 @@ use Rattle.glacier_server.specs.Acts.{Act, after_acts}
 use Rattle.glacier_server.specs.Machine.{State}
 use Rattle.glacier_server.specs.Out.{run, out, Tells}
 use Rattle.glacier_server.specs.Session.{Session, HeldWaiting}
-use Rattle.glacier_server.specs.Transfer.{Transfer, Failing, nothing, receiving, sending, breaking, current}
+use Rattle.glacier_server.specs.Transfer.{Transfer, Failing, nothing, receiving, sending, current}
 
 -- the messages heard in the bytes were run at these readings, and all that is told was done
 pub record Runs (config : Config) (s : Session) (last : Option InputEnd) : Type 0 where
@@ -130,7 +130,7 @@ pub record ServedLast (config : Config) (old new : Told) (state after : State) (
 pub record PartLast (config : Config) (old new : Told) (state : State) : Type 0 where
   pub session : Session
   pub starts : session.before ≡ state
-  pub transfer : Transfer old new session breaking
+  pub transfer : Transfer old new session nothing
   pub part : Part config session
   pub nothing : NothingForLast config session part.1
   pub prompt : IsPrompt config (wait_of (current old.connections)) session
