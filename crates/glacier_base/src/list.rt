@@ -1,5 +1,5 @@
 // Values on the heap.
-ghost use Rattle.std.specs.Prelude.{◌≡◌, [], ◌∷◌, ◌++◌, OnOk, OnErr};
+ghost use Rattle.std.specs.Prelude.{◌≡◌, [], ◌∷◌, ◌++◌, IfOk, OnOk, OnErr};
 
 use crate::Memory;
 use std::alloc::Global;
@@ -59,6 +59,25 @@ impl<T: Drop> List<T> {
         ensures err { OnErr result (self.new ≡ self.old) }
     {
         self.vec.push(item)?;
+        Ok(())
+    }
+}
+
+impl<T: Copy> List<T> {
+    /// A list of its own with these items.
+    pub fn of(alloc: Global, items: &[T]) -> Result<Self, Memory>
+        ensures { IfOk result (λ list. list ≡ items.now) }
+    {
+        let vec: Vec<T> = items.iter().copied().collect(alloc)?;
+        Ok(List { vec })
+    }
+
+    /// Adds items at the end. After an `Err` the list is unchanged.
+    pub fn extend_from_slice(&mut self, items: &[T]) -> Result<(), Memory>
+        ensures ok { OnOk result (self.new ≡ self.old ++ items.now) }
+        ensures err { OnErr result (self.new ≡ self.old) }
+    {
+        self.vec.extend_from_slice(items)?;
         Ok(())
     }
 }

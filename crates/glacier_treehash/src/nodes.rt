@@ -13,9 +13,8 @@ use glacier_base::Digest;
 const LEAF: u64 = MIB as u64;
 
 /// Whether the bytes from `first` to before `end` are a node of the tree over `size` bytes: a
-/// stretch of 2^k leaves
-/// that begins at a multiple of its length, or what is left of one at the end. False for a size of
-/// 0.
+/// stretch of 2^k leaves that begins at a multiple of its length, or what is left of one at the
+/// end. False for a size of 0.
 pub fn is_node(size: u64, first: u64, end: u64) -> bool
     ensures node { IsTrue result ↔ IsNode size first end }
     ensures range { IsTrue result → (first < end) × (end ≤ size) }
@@ -30,7 +29,7 @@ pub fn is_node(size: u64, first: u64, end: u64) -> bool
     is_filled(size, first, end, width)
 }
 
-// Whether these bytes are so many whole leaves, or end with all bytes.
+/// Whether these bytes are so many whole leaves, or end with all bytes.
 fn is_filled(size: u64, first: u64, end: u64, width: u64) -> bool
     requires { first ≤ end }
     ensures { IsTrue result ↔ (end ≡ size) ⊎ ((end - first) / MIB ≡ width) }
@@ -39,8 +38,7 @@ fn is_filled(size: u64, first: u64, end: u64, width: u64) -> bool
 }
 
 /// The tree hash of the bytes from `first` to before `end`, of `size` bytes with these leaves: None
-/// where they are
-/// no node.
+/// where they are no node.
 pub fn range_hash(leaves: &[Digest], size: u64, first: u64, end: u64) -> Option<Digest>
     requires some { 1 ≤ size }
     requires count { length leaves.now ≡ div_ceil size MIB }
@@ -56,7 +54,7 @@ pub fn range_hash(leaves: &[Digest], size: u64, first: u64, end: u64) -> Option<
     root_of(leaves_between(leaves, first, end))
 }
 
-// The leaves of the bytes from `first` to before `end`.
+/// The leaves of the bytes from `first` to before `end`.
 fn leaves_between(leaves: &[Digest], first: u64, end: u64) -> &[Digest]
     requires order { first < end }
     requires within { div_ceil end MIB ≤ length leaves.now }
