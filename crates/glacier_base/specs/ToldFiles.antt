@@ -1,5 +1,6 @@
 -- What the files of a program tell, and what each call makes of it.
-use Rattle.std.specs.Prelude.{◌≡◌, ◌↔◌, ◌≤◌, ◌<◌, ◌+◌, ℕ, Bool, true, false, List, [], ◌++◌, length, take, Option, Some, Result, IfOk, OnOk, OnErr, IsErr}
+use Rattle.std.specs.Prelude.{◌≡◌, ◌↔◌, ◌≤◌, ◌<◌, ◌+◌, ℕ, Bool, true, false, List, [], ◌++◌, length, take}
+use Rattle.std.specs.Prelude.{Option, Some, Result, IfOk, OnOk, OnErr, IsErr}
 use Rattle.std.specs.List.{Contains}
 use Rattle.glacier_base.specs.Outside.{HasCause, IsCounted, Names}
 use Rattle.glacier_base.specs.declared.files.TheConstants.{MOST_READ}
@@ -44,7 +45,8 @@ pub record OpenCall {T E : Type 0} (old new : ToldFiles) (result : Result T E) :
   pub kept_given : OnErr result (new.given ≡ old.given)
   pub cause : HasCause old.faults new.faults result
 
--- the next bytes are taken into a slice, none only at the end or where it has no room, or the call was planned to fail and takes none
+-- the next bytes are taken into a slice, none only at the end or where it has no room,
+-- or the call was planned to fail and takes none
 pub record Reads {E : Type 0} (before after : List ℕ) (old new : ToldFiles) (result : Result ℕ E) : Type 0 where
   pub taken : IfOk result (λ count. old.rest ≡ take count after ++ new.rest)
   pub end : IfOk result (λ count. 0 < length before → (count ≡ 0) ↔ (old.rest ≡ []))

@@ -7,7 +7,6 @@ use crate::Failed;
 use std::io::{ErrorKind, Read, Write};
 
 /// Reads what is there, once. None is read only at the end, or where `into` is empty.
-#[tactic(auto, using(crate::proofs::StreamLemmas::reading))]
 pub fn read_some<R: Read>(reader: &mut R, into: &mut [u8]) -> Result<usize, Failed>
     ensures bound { IfOk result (λ count. count ≤ length into.old) }
     ensures bytes { ReadConsumes (R.remaining reader.old) (R.remaining reader.new)
@@ -27,7 +26,6 @@ pub fn read_some<R: Read>(reader: &mut R, into: &mut [u8]) -> Result<usize, Fail
 }
 
 /// Writes some bytes, once, and tells how many. It answers 0 only where it was interrupted.
-#[tactic(auto, using(crate::proofs::StreamLemmas::appends_none))]
 fn write_once<W: Write>(writer: &mut W, bytes: &[u8]) -> Result<usize, Failed>
     ensures bound { IfOk result (λ count. count ≤ length bytes.now) }
     ensures bytes { WriteAppends (W.contents writer.old) (W.contents writer.new)
@@ -42,7 +40,7 @@ fn write_once<W: Write>(writer: &mut W, bytes: &[u8]) -> Result<usize, Failed>
 }
 
 /// Writes all bytes, or a first part of them and then answers `Failed`.
-#[tactic(auto, using(crate::proofs::StreamLemmas::writing))]
+#[tactic(auto, using(crate::proofs::StreamLemmas::appends_whole))]
 pub fn write_whole<W: Write>(writer: &mut W, bytes: &[u8]) -> Result<(), Failed>
     ensures whole { OnOk result (Appends (W.contents writer.old) (W.contents writer.new)
         bytes.now) }

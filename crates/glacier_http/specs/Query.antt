@@ -1,20 +1,23 @@
 -- The pairs of a query.
-use Rattle.std.specs.Prelude.{ℕ, List, [], ◌∷◌, Option, Some, None}
-use Rattle.std.specs.List.{flat_map, slice_split}
+use Rattle.std.specs.Prelude.{ℕ, not, List, [], map, filter, unwrap_or}
+use Rattle.std.specs.List.{slice_split}
 use Rattle.percent_encoding.specs.Percent.{percent_decode}
 use Rattle.glacier_base.specs.Cuts.{cut_at, is_byte}
+use Rattle.glacier_http.specs.Judged.{is_empty}
 use Rattle.glacier_http.specs.declared.query.Pair.{Pair}
 
--- the name before the equals sign and the value behind it, decoded; without one the piece is a name
-abbrev pub pair_at : List ℕ → Option (List ℕ × List ℕ) → Pair
-pair_at piece None = record { name = percent_decode piece; value = percent_decode [] }
-pair_at piece (Some parts) = record { name = percent_decode parts.0; value = percent_decode parts.1 }
+-- the name before the first equals sign and the value behind it; without one the piece is a name with an empty value
+abbrev pub halves : List ℕ → List ℕ × List ℕ
+halves piece = unwrap_or (cut_at 61 piece) (piece, [])
 
--- the pair of a piece, unless the piece is empty
-abbrev pub pairs_of_piece : List ℕ → List Pair
-pairs_of_piece [] = []
-pairs_of_piece (b ∷ piece) = pair_at (b ∷ piece) (cut_at 61 (b ∷ piece)) ∷ []
+-- the pair of a piece: both halves, decoded
+abbrev pub pair_of : List ℕ → Pair
+pair_of piece = record { name = percent_decode (halves piece).0; value = percent_decode (halves piece).1 }
 
--- the pairs of a query: of its pieces between the ampersands
+-- the pieces between the ampersands, without the empty ones
+abbrev pub query_pieces : List ℕ → List (List ℕ)
+query_pieces query = filter (λ piece. not (is_empty piece)) (slice_split (is_byte 38) query)
+
+-- the pairs of a query
 abbrev pub pairs_of : List ℕ → List Pair
-pairs_of query = flat_map pairs_of_piece (slice_split (is_byte 38) query)
+pairs_of query = map pair_of (query_pieces query)

@@ -1,20 +1,20 @@
 // The pairs of a query.
 ghost use Rattle.std.specs.Prelude.{◌≡◌, IfOk};
 ghost use Rattle.percent_encoding.specs.Percent.{percent_decode as decoded_text};
-ghost use Rattle.glacier_base.specs.Cuts.{cut_at};
-ghost use Rattle.glacier_http.specs.Query.{pair_at, pairs_of};
+ghost use Rattle.glacier_http.specs.Query.{pair_of as pair_in, pairs_of};
 
 use glacier_base::{List, Memory, Text, cut, next_piece};
 use percent_encoding::percent_decode;
 use std::alloc::Global;
 
-/// A name and a value, decoded.
+/// A name and a value of a query, decoded.
 #[derive(Drop)]
 pub struct Pair {
     pub name: Text,
     pub value: Text,
 }
 
+/// The text without its escapes.
 fn decoded(alloc: Global, bytes: &[u8]) -> Result<Text, Memory>
     ensures { IfOk result (λ text. text ≡ decoded_text bytes.now) }
 {
@@ -23,8 +23,9 @@ fn decoded(alloc: Global, bytes: &[u8]) -> Result<Text, Memory>
     Ok(Text::from_vec(text))
 }
 
+/// The pair of a piece.
 fn pair_of(alloc: Global, piece: &[u8]) -> Result<Pair, Memory>
-    ensures { IfOk result (λ pair. pair ≡ pair_at piece.now (cut_at 61 piece.now)) }
+    ensures { IfOk result (λ pair. pair ≡ pair_in piece.now) }
 {
     let (name, value): (&[u8], &[u8]) = match cut(piece, b'=') {
         Some(parts) => parts,

@@ -1,84 +1,104 @@
--- Turns one after another serve the last connection.
-use Rattle.std.proofs.Common.{◌≡◌, ℕ, ◌+◌, List, [], ◌++◌, Some, None, sym, subst}
-use Rattle.std.specs.Prelude.{Option}
-use Rattle.glacier_disk.specs.Network.{Connection}
+-- Exchanges one after another serve the last connection.
+use Rattle.std.proofs.Common.{◌≡◌, ℕ, ◌+◌, List, [], Some, None, refl, sym, ap, subst, ◌∙◌}
+use Rattle.std.proofs.lemmas.List.Elements.{All-nil}
+use Rattle.glacier_disk.specs.Network.{Wait, wait_of}
+use Rattle.glacier_disk.specs.Told.{Told}
 use Rattle.glacier_machine.specs.declared.config.Config.{Config}
 use Rattle.glacier_server.specs.declared.end.End.{End}
+use Rattle.glacier_server.specs.Exchange.{Standing, standing, Exchanges, BreaksOff, Idles, exchange_on}
 use Rattle.glacier_server.specs.Machine.{State}
-use Rattle.glacier_server.specs.Moves.{Moves, current}
-use Rattle.glacier_server.specs.Served.{ServedLast, PartLast}
-use Rattle.glacier_server.specs.Turn.{IsTurn, Turns, BreaksOff}
-use Rattle.glacier_server.proofs.MoveLemmas.{stays, then}
-use Rattle.glacier_server.proofs.RunLemmas.{SoFar, nothing, goes_on, breaks, served, part_none}
+use Rattle.glacier_server.specs.Served.{ServedLast, PartLast, IsPrompt, Stops}
+use Rattle.glacier_server.specs.Session.{Session, taking, HeldWaiting}
+use Rattle.glacier_server.specs.Transfer.{Transfer, nothing, current}
+use Rattle.glacier_server.proofs.RunLemmas.{SoFar, goes_on, stops, breaks, breaks_none, served, part_none, nothing_none}
+use Rattle.glacier_server.proofs.RunLemmas as run
+use Rattle.glacier_server.proofs.SessionLemmas.{joined, held_then}
+use Rattle.glacier_server.proofs.TransferLemmas.{stays, then, moved, breaks_off}
 
--- n messages were answered on the last connection, and the unread bytes are left
-pub record SoFarLast {S : Type 0} (connections : S → List Connection) (readings : S → List ℕ) (config : Config) (n : ℕ)
-    (old new : S) (unread : List ℕ) (state after : State) : Type 0 where
-  pub taken : List ℕ
-  pub sent : List ℕ
-  pub moments : List ℕ
-  pub moves : Moves connections readings old new taken sent moments
-  pub so_far : SoFar config n taken unread sent moments state after None
+-- as many messages were answered on the last connection as it stands behind
+pub record SoFarLast (config : Config) (old new : Told) (state : State) (at : Standing) : Type 0 where
+  pub session : Session
+  pub starts : session.before ≡ state
+  pub transfer : Transfer old new session nothing
+  pub so_far : SoFar config session at None
+  pub prompt : IsPrompt config (wait_of (current old.connections)) session
 
-module _ {S : Type 0} (connections : S → List Connection) (readings : S → List ℕ) (config : Config) (a : S) (state : State) where
+module _ {config : Config} {a : Told} {state : State} where
   -- before the first message
-  pub at_start : (unread : List ℕ) → unread ≡ [] → SoFarLast connections readings config 0 a a unread state state
+  pub at_start : (unread : List ℕ) → unread ≡ [] → SoFarLast config a a state (standing 0 unread state)
   at_start unread none = record {
-    taken = [];
-    sent = [];
-    moments = [];
-    moves = stays connections readings a;
-    so_far = subst (λ (l : List ℕ). SoFar config 0 [] l [] [] state state None) (sym none) (nothing config state);
+    session = taking state [] [];
+    starts = refl;
+    transfer = stays a state;
+    so_far = subst (λ (l : List ℕ). SoFar config (taking state [] []) (standing 0 l state) None) (sym none)
+        (run.nothing config state);
+    prompt = All-nil _;
   }
 
   -- no memory for the first
-  pub never_began : PartLast connections readings config a a state
+  pub never_began : PartLast config a a state
   never_began = record {
-    taken = [];
-    sent = [];
-    moments = [];
-    after = state;
-    moves = stays connections readings a;
+    session = taking state [] [];
+    starts = refl;
+    transfer = breaks_off (taking state [] []) (stays a state);
     part = part_none config state;
+    nothing = nothing_none config state;
+    prompt = All-nil _;
   }
 
-  module _ (n : ℕ) (b c : S) (unread : List ℕ) (mid : State) (x : SoFarLast connections readings config n a b unread state mid) where
-    joined : (got sent moments : List ℕ) → Moves connections readings b c got sent moments
-        → Moves connections readings a c (x.taken ++ got) (x.sent ++ sent) (x.moments ++ moments)
-    joined got sent moments moves =
-        then connections readings a b c x.taken got x.sent sent x.moments moments x.moves moves
+  module _ {b : Told} {from : Standing} (x : SoFarLast config a b state from) where
+    leads : (t : Session) → t.before ≡ from.state → t.before ≡ x.session.after
+    leads t starts = starts ∙ x.so_far.state
+
+    -- at each wait of an exchange, all was done that was due
+    prompt_then : (t : Session) → t.before ≡ from.state
+        → HeldWaiting (wait_of (current b.connections)) t (λ till. Idles (exchange_on from [] [] till))
+        → IsPrompt config (wait_of (current a.connections)) (joined x.session t)
+    prompt_then t starts idle =
+        held_then (wait_of (current a.connections)) x.session t (Stops config) (λ till. Idles
+        (exchange_on from [] [] till)) x.prompt
+        (subst (λ (w : Wait). HeldWaiting w t (λ till. Idles (exchange_on from [] [] till)))
+        (moved x.session x.transfer) idle)
+        (λ u front holds. stops config x.session u from x.so_far (front.before ∙ starts) [] [] holds)
 
     -- one more
-    pub one_more_last : (left : List ℕ) (new : State) (end : Option End) → end ≡ None → Turns connections readings config n b c unread left mid new end
-        → SoFarLast connections readings config (n + 1) a c left state new
-    one_more_last left new end is y = record {
-      taken = x.taken ++ y.got;
-      sent = x.sent ++ y.sent;
-      moments = x.moments ++ y.moments;
-      moves = joined y.got y.sent y.moments y.moves;
-      so_far = goes_on config n x.taken unread x.sent x.moments y.got y.sent y.moments state mid new x.so_far left None
-          (subst (λ (o : Option End). IsTurn config n (unread ++ y.got) left mid new y.sent y.moments (current (connections c)).coming o) is y.turn);
-    }
+    pub one_more_last : {c : Told} (to : Standing) → from.count + 1 ≡ to.count → Exchanges config from to b c None
+        → SoFarLast config a c state to
+    one_more_last {c = c} to counts y =
+        let next = goes_on config x.session y.session from x.so_far y.starts to.unread
+        (current c.connections).coming None y.exchange.0 in record {
+          session = joined x.session y.session;
+          starts = x.starts;
+          transfer = then x.session y.session (leads y.session y.starts) x.transfer y.transfer;
+          so_far = subst (λ (k : Standing). SoFar config (joined x.session y.session) k None)
+              (ap (λ (n : ℕ). standing n y.exchange.0.rest y.session.after) counts
+              ∙ ap (λ (l : List ℕ). standing to.count l y.session.after) y.exchange.1
+              ∙ ap (λ (k : State). standing to.count to.unread k) y.leaves) next;
+          prompt = prompt_then y.session y.starts y.idle;
+        }
 
     -- the end
-    pub served_last : (left : List ℕ) (new : State) (end : Option End) (e : End) → end ≡ Some e
-        → Turns connections readings config n b c unread left mid new end → ServedLast connections readings config a c state new e
-    served_last left new end e is y = record {
-      taken = x.taken ++ y.got;
-      sent = x.sent ++ y.sent;
-      moments = x.moments ++ y.moments;
-      moves = joined y.got y.sent y.moments y.moves;
-      served = served config n x.taken unread x.sent x.moments y.got y.sent y.moments left (current (connections c)).coming state mid new e x.so_far
-          (subst (λ (o : Option End). IsTurn config n (unread ++ y.got) left mid new y.sent y.moments (current (connections c)).coming o) is y.turn);
-    }
+    pub served_last : {c : Told} {to : Standing} {e : End} → Exchanges config from to b c (Some e)
+        → ServedLast config a c state to.state e
+    served_last {c = c} {to = to} {e = e} y =
+        let moves = then x.session y.session (leads y.session y.starts) x.transfer y.transfer in record {
+          session = joined x.session y.session;
+          starts = x.starts;
+          leaves = y.leaves;
+          transfer = moves;
+          served = served config x.session y.session from x.so_far y.starts to.unread
+              (current c.connections).coming e y.exchange moves.does.after_is;
+          prompt = prompt_then y.session y.starts y.idle;
+        }
 
     -- no memory for one more
-    pub part_last : BreaksOff connections readings config n b c unread mid → PartLast connections readings config a c state
-    part_last y = record {
-      taken = x.taken ++ y.got;
-      sent = x.sent ++ y.sent;
-      moments = x.moments ++ y.moments;
-      after = y.after;
-      moves = joined y.got y.sent y.moments y.moves;
-      part = breaks config n x.taken unread x.sent x.moments y.got y.sent y.moments state mid y.after x.so_far y.part;
-    }
+    pub part_last : {c : Told} → BreaksOff config from b c → PartLast config a c state
+    part_last y =
+        let moves = then x.session y.session (leads y.session y.starts) x.transfer y.transfer in record {
+          session = joined x.session y.session;
+          starts = x.starts;
+          transfer = moves;
+          part = breaks config x.session y.session from x.so_far y.starts [] [] y.part moves.does.after_is;
+          nothing = breaks_none config x.session y.session from x.so_far y.starts [] [] y.part moves.does.after_is y.nothing;
+          prompt = prompt_then y.session y.starts y.idle;
+        }

@@ -1,9 +1,17 @@
--- A step of the last connection is a move.
-use Rattle.std.proofs.Common.{◌≡◌, ℕ, ◌+◌, ◌-◌, ◌^◌, ◌≤◌, List, [], ◌∷◌, ◌++◌, take, refl, sym, ap, subst, ◌∙◌, arith, append-nil}
-use Rattle.std.specs.Prelude.{min}
-use Rattle.glacier_base.specs.Outside.{HasRisen, one_more}
-use Rattle.glacier_disk.specs.Network.{Connection, OnLast, Takes, TakesNone, Sends, SendsPart}
-use Rattle.glacier_server.specs.Moves.{Moves, ReceiveFailed, SendFailed, NoneFailed, NoneComing, NotFallen, current, others}
+-- What one call does on the last connection.
+use Rattle.std.proofs.Common.{◌≡◌, ℕ, List, [], ◌∷◌, ◌++◌, length, take, refl, sym, ap, subst, ◌∙◌, arith, append-nil}
+use Rattle.std.specs.Prelude.{Result, Ok, Err}
+use Rattle.std.proofs.lemmas.List.Elements.{All-nil, All-cons}
+use Rattle.glacier_disk.specs.Calls.{ReceiveCall, Receives, SendCall, NowCall, SendsAll, SendsFirst}
+use Rattle.glacier_disk.specs.Network.{Connection, Wait, OnLast, Takes as TakesStep, TakesNone, sent_on, on_last, wait_of}
+use Rattle.glacier_disk.specs.Told.{Told}
+use Rattle.glacier_disk.proofs.Connections.{sent_same, sent_more}
+use Rattle.glacier_machine.specs.Outcomes.{AccountEvent, after_all}
+use Rattle.glacier_server.specs.Acts.{sends as acts, keeps as acts_of, bytes_of}
+use Rattle.glacier_server.specs.Machine.{State}
+use Rattle.glacier_server.specs.Session.{Session, taking, reading, acting}
+use Rattle.glacier_server.specs.Transfer.{Does, Transfer, TakenAt, Takes, SentAll, SentPart, Failing, nothing, receiving, sending, receiving_if, received, Fails, current, others}
+use Rattle.glacier_server.proofs.ActLemmas.{does_quiet, does_send, does_keep, bytes_of-sends, bytes_of-keeps}
 
 pub current-snoc : (before : List Connection) (c : Connection) → current (before ++ c ∷ []) ≡ c
 current-snoc [] c = refl
@@ -13,7 +21,7 @@ current-snoc (b ∷ d ∷ before) c = current-snoc (d ∷ before) c
 pub others-snoc : (before : List Connection) (c : Connection) → others (before ++ c ∷ []) ≡ before
 others-snoc [] c = refl
 others-snoc (b ∷ []) c = refl
-others-snoc (b ∷ d ∷ before) c = ap (λ l. b ∷ l) (others-snoc (d ∷ before) c)
+others-snoc (b ∷ d ∷ before) c = ap (λ (l : List Connection). b ∷ l) (others-snoc (d ∷ before) c)
 
 -- the two ends of a step, as the last connections
 record Ends (step : Connection → Connection → Type 0) (old new : List Connection) : Type 0 where
@@ -24,8 +32,8 @@ record Ends (step : Connection → Connection → Type 0) (old new : List Connec
   same : others new ≡ others old
   steps : step from to
 
-ends : (step : Connection → Connection → Type 0) (old new : List Connection) → OnLast step old new → Ends step old new
-ends step old new on = record {
+ends : {step : Connection → Connection → Type 0} {old new : List Connection} → OnLast step old new → Ends step old new
+ends on = record {
   from = on.from;
   to = on.to;
   was = ap current on.was ∙ current-snoc on.before on.from;
@@ -34,119 +42,147 @@ ends step old new on = record {
   steps = on.steps;
 }
 
--- counts up to an end
-same_up : (from to most : ℕ) → to ≡ from → min from most ≤ to
-same_up from to most is = omega (arith, is)
+-- the bytes sent on each connection, where the last one sends none, or these
+same_sent : {step : Connection → Connection → Type 0} {old new : List Connection} (on : OnLast step old new)
+    → on.to.sent ≡ on.from.sent → sent_on new ≡ sent_on old
+same_sent on same = ap sent_on on.is ∙ sent_same on.before on.from on.to same ∙ ap sent_on (sym on.was)
 
-one_up : (from to most : ℕ) → to ≡ min (from + 1) most → min from most ≤ to
-one_up from to most is = omega (arith, is)
+more_sent : {step : Connection → Connection
+    → Type 0} {old new : List Connection} (on : OnLast step old new) (bytes : List ℕ)
+    → on.to.sent ≡ on.from.sent ++ bytes → sent_on new ≡ on_last bytes (sent_on old)
+more_sent on bytes more = ap sent_on on.is ∙ sent_more on.before on.from on.to bytes more
+    ∙ ap (λ (l : List Connection). on_last bytes (sent_on l)) (sym on.was)
 
-more_up : (from to most : ℕ) → to ≡ min (from + 1) most → min (from + 1) most ≤ to
-more_up from to most is = omega (arith, is)
+-- one step, whose parts are these
+transfer_by : {old new : Told} {step : Connection → Connection
+    → Type 0} (e : Ends step old.connections new.connections) (s : Session) (sent : List ℕ) (failing : Failing)
+    → Does old new s.before s.after s.acts → bytes_of s.acts ≡ sent → new.readings ≡ old.readings ++ s.readings
+    → e.to.taken ≡ e.from.taken ++ s.taken → e.from.coming ≡ s.taken ++ e.to.coming
+    → e.to.sent ≡ e.from.sent ++ sent → e.to.waits ≡ e.from.waits ++ s.waits
+    → Fails failing e.from e.to → Transfer old new s failing
+transfer_by {old = old} {new = new} e s sent failing does bytes read took coming sent_now waited fails = record {
+  took = ap (λ (c : Connection). c.taken) e.is ∙ took ∙ ap (λ (c : Connection). c.taken ++ s.taken) (sym e.was);
+  coming = ap (λ (c : Connection). c.coming) e.was ∙ coming ∙ ap (λ (c : Connection). s.taken ++ c.coming) (sym e.is);
+  sent_now = ap (λ (c : Connection). c.sent) e.is ∙ sent_now ∙ ap (λ (c : Connection). c.sent ++ sent) (sym e.was)
+      ∙ ap (λ (l : List ℕ). (current old.connections).sent ++ l) (sym bytes);
+  waited = ap (λ (c : Connection). c.waits) e.is ∙ waited ∙ ap (λ (c : Connection). c.waits ++ s.waits) (sym e.was);
+  read = read;
+  rest = e.same;
+  fails = subst (λ (c : Connection). Fails failing c (current new.connections)) (sym e.was) (subst (λ
+      (c : Connection). Fails failing e.from c) (sym e.is) fails);
+  does = does;
+}
 
-same_count : (from to : ℕ) → to ≡ from → NotFallen from to
-same_count from to is = same_up from to (2 ^ 64 - 1) is
+-- a receive waits where nothing was taken yet
+module _ {T E : Type 0} {old new : Told} {result : Result T E} (call : ReceiveCall old new result) where
+  abbrev wait : Wait
+  wait = wait_of (current old.connections)
 
-one_count : (from to : ℕ) → to ≡ one_more from → NotFallen from to
-one_count from to is = one_up from to (2 ^ 64 - 1) is
-
-rises : (from to : ℕ) → to ≡ one_more from → HasRisen from to
-rises from to is = more_up from to (2 ^ 64 - 1) is
-
-module _ {S : Type 0} (connections : S → List Connection) (readings : S → List ℕ) (old new : S) where
-  -- one step, whose parts are these
-  moves_by : (step : Connection → Connection → Type 0) (e : Ends step (connections old) (connections new)) (taken sent moments : List ℕ)
-      → readings new ≡ readings old ++ moments → e.to.taken ≡ e.from.taken ++ taken → e.from.coming ≡ taken ++ e.to.coming → e.to.sent ≡ e.from.sent ++ sent
-      → NotFallen e.from.receives_failed e.to.receives_failed → NotFallen e.from.sends_failed e.to.sends_failed → Moves connections readings old new taken sent moments
-  moves_by step e taken sent moments read took coming sent_now receives sends = record {
-    took = ap (λ (c : Connection). c.taken) e.is ∙ took ∙ ap (λ (c : Connection). c.taken ++ taken) (sym e.was);
-    coming = ap (λ (c : Connection). c.coming) e.was ∙ coming ∙ ap (λ (c : Connection). taken ++ c.coming) (sym e.is);
-    sent_now = ap (λ (c : Connection). c.sent) e.is ∙ sent_now ∙ ap (λ (c : Connection). c.sent ++ sent) (sym e.was);
-    read = read;
-    rest = e.same;
-    receives = subst (λ (c : Connection). NotFallen c.receives_failed (current (connections new)).receives_failed) (sym e.was) (subst (λ (c : Connection). NotFallen e.from.receives_failed c.receives_failed) (sym e.is) receives);
-    sends = subst (λ (c : Connection). NotFallen c.sends_failed (current (connections new)).sends_failed) (sym e.was) (subst (λ (c : Connection). NotFallen e.from.sends_failed c.sends_failed) (sym e.is) sends);
+  here : (bytes : List ℕ) → TakenAt wait bytes (λ l. l ≡ []) wait
+  here bytes = record {
+    till = [];
+    later = bytes;
+    cut = refl;
+    at = ap (λ (k : ℕ). (let w : Wait = record { taken = k; sent = length (current old.connections).sent } in w))
+        (omega arith);
+    holds = refl;
   }
 
-  module _ (same : readings new ≡ readings old) where
-    read : readings new ≡ readings old ++ []
-    read = same ∙ sym (append-nil (readings old))
+  waits_at : {step : Connection → Connection → Type 0} (e : Ends step old.connections new.connections)
+      → e.to.waits ≡ e.from.waits ++ wait_of e.from ∷ [] → e.to.waits ≡ e.from.waits ++ wait ∷ []
+  waits_at e is = is ∙ ap (λ (c : Connection). e.from.waits ++ wait_of c ∷ []) (sym e.was)
 
-    pub takes : (bytes : List ℕ) → OnLast (Takes bytes) (connections old) (connections new) → Moves connections readings old new bytes [] []
-    takes bytes on =
-        let e = ends (Takes bytes) (connections old) (connections new) on in
-        moves_by (Takes bytes) e bytes [] [] read e.steps.taken e.steps.coming (e.steps.sent ∙ sym (append-nil _))
-        (same_count _ _ e.steps.receives_failed) (same_count _ _ e.steps.sends_failed)
+  takes_some : {bytes : List ℕ} → OnLast (TakesStep bytes) old.connections new.connections
+      → Takes old new bytes (λ l. l ≡ []) nothing
+  takes_some {bytes = bytes} on =
+      let e = ends on in record {
+        waits = wait ∷ [];
+        transfer = λ state. transfer_by e (taking state bytes (wait ∷ [])) [] nothing (does_quiet state
+            (same_sent on on.steps.sent)) refl (call.readings ∙ sym (append-nil _))
+            e.steps.taken e.steps.coming (e.steps.sent
+            ∙ sym (append-nil _)) (waits_at e e.steps.waits) (e.steps.receives_failed, e.steps.sends_failed);
+        each = All-cons (TakenAt wait bytes (λ l. l ≡ [])) wait [] (here bytes) (All-nil (TakenAt wait bytes
+            (λ l. l ≡ [])));
+      }
 
-    pub sends : (bytes : List ℕ) → OnLast (Sends bytes) (connections old) (connections new) → Moves connections readings old new [] bytes []
-    sends bytes on =
-        let e = ends (Sends bytes) (connections old) (connections new) on in
-        moves_by (Sends bytes) e [] bytes [] read (e.steps.taken ∙ sym (append-nil _)) (sym e.steps.coming) e.steps.sent
-        (same_count _ _ e.steps.receives_failed) (same_count _ _ e.steps.sends_failed)
+  takes_nothing : OnLast TakesNone old.connections new.connections → Takes old new [] (λ l. l ≡ []) receiving
+  takes_nothing on =
+      let e = ends on in record {
+        waits = wait ∷ [];
+        transfer = λ state. transfer_by e (taking state [] (wait ∷ [])) [] receiving (does_quiet state
+            (same_sent on on.steps.sent)) refl (call.readings ∙ sym (append-nil _))
+            (e.steps.taken ∙ sym (append-nil _)) (sym e.steps.coming) (e.steps.sent
+            ∙ sym (append-nil _)) (waits_at e e.steps.waits) (e.steps.receives_failed, e.steps.sends_failed);
+        each = All-cons (TakenAt wait [] (λ l. l ≡ [])) wait [] (here []) (All-nil (TakenAt wait [] (λ l. l ≡ [])));
+      }
 
-    pub takes_none : OnLast TakesNone (connections old) (connections new) → Moves connections readings old new [] [] []
-    takes_none on =
-        let e = ends TakesNone (connections old) (connections new) on in
-        moves_by TakesNone e [] [] [] read (e.steps.taken ∙ sym (append-nil _)) (sym e.steps.coming) (e.steps.sent ∙ sym (append-nil _))
-        (one_count _ _ e.steps.receives_failed) (same_count _ _ e.steps.sends_failed)
+-- what a receive took, whatever it answered
+pub takes_once : {E : Type 0} {old new : Told} (result : Result ℕ E) (before after : List ℕ)
+    → ReceiveCall old new result → Receives before after old.connections new.connections result
+    → Takes old new (received result after) (λ l. l ≡ []) (receiving_if result)
+takes_once (Ok n) before after call receives = takes_some call receives.takes
+takes_once (Err e) before after call receives = takes_nothing call receives.failed
 
-    pub sends_part : (n : ℕ) (bytes : List ℕ) → OnLast (SendsPart n bytes) (connections old) (connections new) → Moves connections readings old new [] (take n bytes) []
-    sends_part n bytes on =
-        let e = ends (SendsPart n bytes) (connections old) (connections new) on in
-        moves_by (SendsPart n bytes) e [] (take n bytes) [] read (e.steps.taken ∙ sym (append-nil _)) (sym e.steps.coming) e.steps.sent
-        (same_count _ _ e.steps.receives_failed) (one_count _ _ e.steps.sends_failed)
+pub none_coming : {old new : List Connection} → OnLast (λ from to. to.coming ≡ []) old new → (current new).coming ≡ []
+none_coming on = let e = ends on in ap (λ (c : Connection). c.coming) e.is ∙ e.steps
 
-  -- a call that failed on the last connection
-  pub read_failed : OnLast TakesNone (connections old) (connections new) → ReceiveFailed connections old new
-  read_failed on =
-      let e = ends TakesNone (connections old) (connections new) on in
-      rises _ _ (ap (λ (c : Connection). c.receives_failed) e.is ∙ e.steps.receives_failed ∙ ap (λ (c : Connection). one_more c.receives_failed) (sym e.was))
+-- a send, all of whose bytes went out, or the first ones
+pub sent_all : {T E : Type 0} {old new : Told} {result : Result T E} (bytes : List ℕ) → SendCall old new result
+    → SendsAll bytes old new → SentAll old new bytes
+sent_all bytes call all state =
+    let e = ends all.step in
+    transfer_by e (acting state state (acts bytes)) bytes nothing (does_send state bytes
+    (more_sent all.step bytes all.step.steps.sent)) (bytes_of-sends bytes)
+    (call.readings ∙ sym (append-nil _)) (e.steps.taken
+    ∙ sym (append-nil _)) (sym e.steps.coming) e.steps.sent (e.steps.waits
+    ∙ sym (append-nil _)) (e.steps.receives_failed, e.steps.sends_failed)
 
-  pub send_failed : (n : ℕ) (bytes : List ℕ) → OnLast (SendsPart n bytes) (connections old) (connections new)
-      → SendFailed connections old new
-  send_failed n bytes on =
-      let e = ends (SendsPart n bytes) (connections old) (connections new) on in
-      rises _ _ (ap (λ (c : Connection). c.sends_failed) e.is ∙ e.steps.sends_failed ∙ ap (λ (c : Connection). one_more c.sends_failed) (sym e.was))
+pub sent_part : {T E : Type 0} {old new : Told} {result : Result T E} (bytes : List ℕ) → SendCall old new result
+    → (n : ℕ) → SendsFirst n bytes old new → SentPart old new bytes
+sent_part bytes call n first = (
+  n,
+  λ state.
+      let e = ends first.step in
+      transfer_by e (acting state state (acts (take n bytes))) (take n bytes) sending
+      (does_send state (take n bytes) (more_sent first.step (take n bytes) first.step.steps.sent)) (bytes_of-sends
+      (take n bytes))
+      (call.readings ∙ sym (append-nil _)) (e.steps.taken
+      ∙ sym (append-nil _)) (sym e.steps.coming) e.steps.sent (e.steps.waits
+      ∙ sym (append-nil _)) (e.steps.receives_failed, e.steps.sends_failed),
+)
 
-  -- a reading, which touches no connection
-  pub reads : (r : ℕ) → readings new ≡ readings old ++ r ∷ [] → connections new ≡ connections old → Moves connections readings old new [] [] (r ∷ [])
-  reads r is same = record {
-    took = ap (λ (cs : List Connection). (current cs).taken) same ∙ sym (append-nil _);
-    coming = ap (λ (cs : List Connection). (current cs).coming) (sym same);
-    sent_now = ap (λ (cs : List Connection). (current cs).sent) same ∙ sym (append-nil _);
-    read = is;
-    rest = ap others same;
-    receives = same_count _ _ (ap (λ (cs : List Connection). (current cs).receives_failed) same);
-    sends = same_count _ _ (ap (λ (cs : List Connection). (current cs).sends_failed) same);
-  }
-
-pub at_end : {S : Type 0} (connections : S → List Connection) (old new : S) → OnLast (λ from to. to.coming ≡ []) (connections old) (connections new)
-    → NoneComing connections new
-at_end connections old new on =
-    let e = ends (λ from to. to.coming ≡ []) (connections old) (connections new) on in
-    ap (λ (c : Connection). c.coming) e.is ∙ e.steps
-
--- no call on the last connection failed
-module _ {S : Type 0} (connections : S → List Connection) (old new : S) where
-  none_failed_by : (step : Connection → Connection → Type 0) (e : Ends step (connections old) (connections new))
-      → e.to.receives_failed ≡ e.from.receives_failed → e.to.sends_failed ≡ e.from.sends_failed → NoneFailed connections old new
-  none_failed_by step e receives sends = (
-    ap (λ (c : Connection). c.receives_failed) e.is ∙ receives ∙ ap (λ (c : Connection). c.receives_failed) (sym e.was),
-    ap (λ (c : Connection). c.sends_failed) e.is ∙ sends ∙ ap (λ (c : Connection). c.sends_failed) (sym e.was),
-  )
-
-  pub takes_none_failed : (bytes : List ℕ) → OnLast (Takes bytes) (connections old) (connections new) → NoneFailed connections old new
-  takes_none_failed bytes on =
-      let e = ends (Takes bytes) (connections old) (connections new) on in
-      none_failed_by (Takes bytes) e e.steps.receives_failed e.steps.sends_failed
-
-  pub sends_none_failed : (bytes : List ℕ) → OnLast (Sends bytes) (connections old) (connections new) → NoneFailed connections old new
-  sends_none_failed bytes on =
-      let e = ends (Sends bytes) (connections old) (connections new) on in
-      none_failed_by (Sends bytes) e e.steps.receives_failed e.steps.sends_failed
-
-  pub same_none_failed : connections new ≡ connections old → NoneFailed connections old new
-  same_none_failed same = (
+-- calls that touch no connection
+untouched : {old new : Told} (s : Session) → s.taken ≡ [] → bytes_of s.acts ≡ [] → s.waits ≡ []
+    → Does old new s.before s.after s.acts → new.readings ≡ old.readings ++ s.readings
+    → new.connections ≡ old.connections → Transfer old new s nothing
+untouched {old = old} {new = new} s none silent still does read same = record {
+  took = ap (λ (cs : List Connection). (current cs).taken) same ∙ sym (append-nil _)
+      ∙ ap (λ (l : List ℕ). (current old.connections).taken ++ l) (sym none);
+  coming = ap (λ (cs : List Connection). (current cs).coming) (sym same)
+      ∙ ap (λ (l : List ℕ). l ++ (current new.connections).coming) (sym none);
+  sent_now = ap (λ (cs : List Connection). (current cs).sent) same ∙ sym (append-nil _)
+      ∙ ap (λ (l : List ℕ). (current old.connections).sent ++ l) (sym silent);
+  waited = ap (λ (cs : List Connection). (current cs).waits) same ∙ sym (append-nil _)
+      ∙ ap (λ (l : List Wait). (current old.connections).waits ++ l) (sym still);
+  read = read;
+  rest = ap others same;
+  fails = (
     ap (λ (cs : List Connection). (current cs).receives_failed) same,
-    ap (λ (cs : List Connection). (current cs).sends_failed) same,
-  )
+    ap (λ (cs : List Connection).
+        (current cs).sends_failed) same,
+  );
+  does = does;
+}
+
+-- a reading
+pub reads : {old new : Told} (state : State) (r : ℕ) → NowCall old new → new.readings ≡ old.readings ++ r ∷ []
+    → Transfer old new (reading state r) nothing
+reads state r call is = untouched (reading state r) refl refl refl (does_quiet state
+    (ap sent_on call.connections)) is call.connections
+
+-- events are kept, and no call is made
+pub keeps_all : (s : Told) (state after : State) (events : List AccountEvent) → after ≡ after_all state events
+    → Transfer s s (acting state after (acts_of events)) nothing
+keeps_all s state after events is =
+    untouched (acting state after (acts_of events)) refl (bytes_of-keeps events) refl
+    (does_keep s state after events is) (sym (append-nil s.readings)) refl

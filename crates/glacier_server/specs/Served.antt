@@ -1,124 +1,136 @@
--- What was sent on a connection for the bytes that were taken on it, and the state after it.
-use Rattle.std.specs.Prelude.{◌≡◌, ℕ, ◌≤◌, ◌⊎◌, List, [], ◌++◌, length, drop, Option, Some, None}
+-- What was done on a connection for the bytes that were taken on it.
+use Rattle.std.specs.Prelude.{◌≡◌, ℕ, ◌≤◌, ◌⊎◌, List, [], ◌∷◌, ◌++◌, length, drop, Option, Some, None, Result, Ok, Err}
 use Rattle.httparse.specs.Grammar.{RequestHead}
-use Rattle.glacier_disk.specs.Network.{Connection}
+use Rattle.glacier_disk.specs.Network.{Wait, wait_of}
+use Rattle.glacier_disk.specs.Told.{Told}
 use Rattle.glacier_http.specs.Opening.{BeginsHead}
 use Rattle.glacier_http.specs.Messages.{Message, Hears, Heard, BeginsNone, InputEnd, closed, cut, refused, bound, end_of_rest}
 use Rattle.glacier_machine.specs.declared.config.Config.{Config}
 use Rattle.glacier_server.specs.declared.end.End.{End}
 use Rattle.glacier_server.specs.declared.end.End.TheVariants.{Closed, Cut, Refused, Bound, ReadFault, SendFault}
+use Rattle.glacier_server.specs.Acts.{Act, after_acts}
 use Rattle.glacier_server.specs.Machine.{State}
-use Rattle.glacier_server.specs.Moves.{Moves, current}
 use Rattle.glacier_server.specs.Out.{run, out, Tells}
+use Rattle.glacier_server.specs.Session.{Session, HeldWaiting}
+use Rattle.glacier_server.specs.Transfer.{Transfer, Failing, nothing, receiving, sending, breaking, current}
 
--- these messages were run at these readings, and what is told was sent, but for what is unsent
-pub record Runs (config : Config) (taken sent moments : List ℕ) (state new : State)
-    (messages : List Message) (rest : List ℕ) (last : Option InputEnd) (unsent : List ℕ)
-    : Type 0 where
-  pub hears : Hears 0 taken messages rest last
-  pub enough : length messages ≤ length moments
-  pub interim : List ℕ
-  pub tells : Tells rest (drop (length messages) moments) interim
-  pub all : out config 0 state messages moments ++ interim ≡ sent ++ unsent
-  pub after_them : new ≡ run config state messages moments
-
--- no message is missing a reading, nor is the rest's good head
-pub record ReadAll (moments : List ℕ) (messages : List Message) (rest : List ℕ) : Type 0 where
-  pub none : BeginsNone rest
-  pub head : length moments ≡ length messages → (h : RequestHead) (more : List ℕ)
-      → ¬ (BeginsHead rest h more)
+-- the messages heard in the bytes were run at these readings, and all that is told was done
+pub record Runs (config : Config) (s : Session) (last : Option InputEnd) : Type 0 where
+  pub messages : List Message
+  pub rest : List ℕ
+  pub hears : Hears 0 s.taken messages rest last
+  pub enough : length messages ≤ length s.readings
+  pub interim : List Act
+  pub tells : Tells rest (drop (length messages) s.readings) interim
+  pub all : s.acts ≡ out config 0 s.before messages s.readings ++ interim
+  pub after_them : s.after ≡ run config s.before messages s.readings
 
 -- the last message made the end, with one reading for each message
-pub record EndsLast (config : Config) (taken sent moments : List ℕ) (state new : State)
-    (end : InputEnd) : Type 0 where
-  pub messages : List Message
-  pub rest : List ℕ
-  pub runs : Runs config taken sent moments state new messages rest (Some end) []
-  pub each : length moments ≡ length messages
+pub record EndsLast (config : Config) (s : Session) (end : InputEnd) : Type 0 where
+  pub runs : Runs config s (Some end)
+  pub each : length s.readings ≡ length runs.messages
 
--- no message is the last, and all that is heard was answered
-pub record Stops (config : Config) (taken sent moments : List ℕ) (state new : State)
-    (messages : List Message) (rest : List ℕ) : Type 0 where
-  pub runs : Runs config taken sent moments state new messages rest None []
-  pub read_all : ReadAll moments messages rest
+-- no message is the last, and all that is heard was answered: no message is missing a reading, nor is
+-- the rest's good head
+pub record Stops (config : Config) (s : Session) : Type 0 where
+  pub runs : Runs config s None
+  pub none : BeginsNone runs.rest
+  pub head : length s.readings ≡ length runs.messages → (h : RequestHead) (more : List ℕ)
+      → ¬ (BeginsHead runs.rest h more)
 
 -- the input ended, where no message was the last
-pub record EndsInput (config : Config) (taken sent moments coming : List ℕ) (state new : State)
-    (end : InputEnd) : Type 0 where
-  pub messages : List Message
-  pub rest : List ℕ
-  pub stops : Stops config taken sent moments state new messages rest
-  pub end_is : end ≡ end_of_rest rest
+pub record EndsInput (config : Config) (s : Session) (coming : List ℕ) (end : InputEnd) : Type 0 where
+  pub stops : Stops config s
+  pub end_is : end ≡ end_of_rest stops.runs.rest
   pub none_left : coming ≡ []
 
--- what is to be sent for these bytes, with these readings: the output of the messages heard in them
-pub record IsOut (config : Config) (taken moments : List ℕ) (state : State) (text : List ℕ)
+-- what is to be done for these bytes, with these readings: for the messages heard in them
+pub record IsOut (config : Config) (taken readings : List ℕ) (state : State) (acts : List Act)
     : Type 0 where
   pub messages : List Message
   pub rest : List ℕ
   pub end : InputEnd
   pub heard : Heard taken messages rest end
-  pub interim : List ℕ
-  pub tells : Tells rest (drop (length messages) moments) interim
-  pub text_is : text ≡ out config 0 state messages moments ++ interim
+  pub interim : List Act
+  pub tells : Tells rest (drop (length messages) readings) interim
+  pub acts_are : acts ≡ out config 0 state messages readings ++ interim
 
 -- the same, where each of these messages has its reading
-pub record IsWholeOut (config : Config) (taken moments : List ℕ) (state : State) (text : List ℕ)
+pub record IsWholeOut (config : Config) (taken readings : List ℕ) (state : State) (acts : List Act)
     : Type 0 where
-  pub is_out : IsOut config taken moments state text
-  pub enough : length is_out.messages ≤ length moments
+  pub is_out : IsOut config taken readings state acts
+  pub enough : length is_out.messages ≤ length readings
 
--- what was sent is a first part of the output
-abbrev pub IsPartOfOut : Config → List ℕ → List ℕ → List ℕ → State → Type 0
-IsPartOfOut config taken sent moments state =
-    (text unsent : List ℕ) × IsOut config taken moments state text × (text ≡ sent ++ unsent)
+-- what was done is a first part of it
+abbrev pub IsPartOfOut : Config → Session → Type 0
+IsPartOfOut config s =
+    (all undone : List Act) × IsOut config s.taken s.readings s.before all × (all ≡ s.acts ++ undone)
 
--- these messages were run, the first of those heard, and no byte was sent of a later one's reply
-pub record RunsPart (config : Config) (taken sent moments : List ℕ) (state new : State)
-    : Type 0 where
+-- these messages were run, the first of those heard and each at its reading: all was done for those
+-- before the last one, and a first part for that; nothing was done for a later one
+pub record AnsweredPart (config : Config) (s : Session) : Type 0 where
   pub messages : List Message
   pub rest : List ℕ
   pub last : Option InputEnd
-  pub unsent : List ℕ
-  pub runs : Runs config taken sent moments state new messages rest last unsent
+  pub hears : Hears 0 s.taken messages rest last
+  pub each : length s.readings ≡ length messages
+  pub undone : List Act
+  pub all : out config 0 s.before messages s.readings ≡ s.acts ++ undone
+  pub answered : (front : List Message) (m : Message) → messages ≡ front ++ m ∷ []
+      → length (out config 0 s.before front s.readings) ≤ length s.acts
+  pub after_is : s.after ≡ after_acts s.before s.acts
 
--- the same, and the state holds each message of whose reply a byte was sent
-abbrev pub Part : Config → List ℕ → List ℕ → List ℕ → State → State → Type 0
-Part config taken sent moments state new =
-    IsPartOfOut config taken sent moments state × RunsPart config taken sent moments state new
+abbrev pub Part : Config → Session → Type 0
+Part config s = IsPartOfOut config s × AnsweredPart config s
 
--- how a connection that ended so was served
-abbrev pub Served : Config → List ℕ → List ℕ → List ℕ → List ℕ → State → State → End → Type 0
-Served config taken sent moments coming state new Closed =
-    EndsLast config taken sent moments state new closed
-    ⊎ EndsInput config taken sent moments coming state new closed
-Served config taken sent moments coming state new (Cut n) =
-    EndsInput config taken sent moments coming state new (cut n)
-Served config taken sent moments coming state new Refused =
-    EndsLast config taken sent moments state new refused
-Served config taken sent moments coming state new Bound =
-    EndsLast config taken sent moments state new bound
-Served config taken sent moments coming state new ReadFault =
-    (messages : List Message) × (rest : List ℕ)
-    × Stops config taken sent moments state new messages rest
-Served config taken sent moments coming state new SendFault =
-    Part config taken sent moments state new
+-- nothing was done for the last of these messages, if there is one
+abbrev pub NothingForLast : (config : Config) (s : Session) → AnsweredPart config s → Type 0
+NothingForLast config s part = (front : List Message) (m : Message) → part.messages ≡ front ++ m ∷ []
+    → s.acts ≡ out config 0 s.before front s.readings
+
+-- how a connection that ended so was served, where these bytes were still to come
+abbrev pub Served : Config → Session → List ℕ → End → Type 0
+Served config s coming Closed = EndsLast config s closed ⊎ EndsInput config s coming closed
+Served config s coming (Cut n) = EndsInput config s coming (cut n)
+Served config s coming Refused = EndsLast config s refused
+Served config s coming Bound = EndsLast config s bound
+Served config s coming ReadFault = Stops config s
+Served config s coming SendFault = Part config s
+
+-- each time that bytes were waited for, all was done that was due: what is heard in the bytes taken
+-- till then was answered, at the readings taken till then
+abbrev pub IsPrompt : Config → Wait → Session → Type 0
+IsPrompt config start s = HeldWaiting start s (Stops config)
+
+-- the call whose failure is this end, if any
+abbrev pub failing_of : End → Failing
+failing_of Closed = nothing
+failing_of (Cut n) = nothing
+failing_of Refused = nothing
+failing_of Bound = nothing
+failing_of ReadFault = receiving
+failing_of SendFault = sending
+
+-- the same of what is answered: an error is want of memory
+abbrev pub failing_to : {T E : Type 0} → Result (End × T) E → Failing
+failing_to (Ok r) = failing_of r.0
+failing_to (Err e) = nothing
 
 -- the last connection was served to this end
-pub record ServedLast {S : Type 0} (connections : S → List Connection) (readings : S → List ℕ)
-    (config : Config) (old new : S) (state after : State) (end : End) : Type 0 where
-  pub taken : List ℕ
-  pub sent : List ℕ
-  pub moments : List ℕ
-  pub moves : Moves connections readings old new taken sent moments
-  pub served : Served config taken sent moments (current (connections new)).coming state after end
+pub record ServedLast (config : Config) (old new : Told) (state after : State) (end : End) : Type 0 where
+  pub session : Session
+  pub starts : session.before ≡ state
+  pub leaves : session.after ≡ after
+  pub transfer : Transfer old new session (failing_of end)
+  pub served : Served config session (current new.connections).coming end
+  pub prompt : IsPrompt config (wait_of (current old.connections)) session
 
--- a first part of its output was sent on the last connection
-pub record PartLast {S : Type 0} (connections : S → List Connection) (readings : S → List ℕ)
-    (config : Config) (old new : S) (state : State) : Type 0 where
-  pub taken : List ℕ
-  pub sent : List ℕ
-  pub moments : List ℕ
-  pub after : State
-  pub moves : Moves connections readings old new taken sent moments
-  pub part : Part config taken sent moments state after
+-- memory was wanting: on the last connection all was done for the messages before the last, and nothing
+-- for that
+pub record PartLast (config : Config) (old new : Told) (state : State) : Type 0 where
+  pub session : Session
+  pub starts : session.before ≡ state
+  pub transfer : Transfer old new session breaking
+  pub part : Part config session
+  pub nothing : NothingForLast config session part.1
+  pub prompt : IsPrompt config (wait_of (current old.connections)) session

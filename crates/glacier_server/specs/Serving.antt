@@ -1,62 +1,131 @@
 -- What a server does for the connections that come, one after another.
-use Rattle.std.specs.Prelude.{◌≡◌, ◌≢◌, ℕ, ◌+◌, ◌<◌, ◌≤◌, List, [], ◌∷◌, ◌++◌, length}
-use Rattle.glacier_disk.specs.Network.{Connection, accepted}
+use Rattle.std.specs.Prelude.{◌≡◌, ◌⊎◌, true, false, ℕ, ◌+◌, ◌≤◌, List, [], ◌∷◌, ◌++◌, length, Result, Ok, Err}
+use Rattle.glacier_base.specs.Outside.{one_more}
+use Rattle.glacier_disk.specs.Network.{Connection, Wait, accepted}
+use Rattle.glacier_disk.specs.Told.{Told}
 use Rattle.glacier_machine.specs.declared.config.Config.{Config}
 use Rattle.glacier_server.specs.declared.end.End.{End}
-use Rattle.glacier_server.specs.declared.end.End.TheVariants.{ReadFault, SendFault}
 use Rattle.glacier_server.specs.declared.end.ServeFault.{ServeFault}
 use Rattle.glacier_server.specs.declared.end.ServeFault.TheVariants.{Memory, Accept}
+use Rattle.glacier_server.specs.Acts.{Act, accept, bytes_of}
 use Rattle.glacier_server.specs.Machine.{State}
-use Rattle.glacier_server.specs.Served.{Served, Part}
+use Rattle.glacier_server.specs.Served.{Served, Part, NothingForLast, IsPrompt, failing_of}
+use Rattle.glacier_server.specs.Session.{Session}
+use Rattle.glacier_server.specs.Transfer.{Does, Fails}
 
--- the connection was served to this end; a fault is its end where a call on it failed, and only there
-pub record ServedOne (config : Config) (c : Connection) (moments : List ℕ) (state new : State)
-    : Type 0 where
+-- the session is all that was done on the connection
+pub record IsSessionOf (c : Connection) (s : Session) : Type 0 where
+  pub taken : c.taken ≡ s.taken
+  pub sent : c.sent ≡ bytes_of s.acts
+  pub waits : c.waits ≡ s.waits
+
+-- a connection on which nothing was taken or sent yet
+abbrev pub begun : Wait
+begun = record { taken = 0; sent = 0 }
+
+-- the connection was served to this end, and what failed on it is what the end says
+pub record ServedOne (config : Config) (c : Connection) (s : Session) : Type 0 where
   pub end : End
-  pub served : Served config c.taken c.sent moments c.coming state new end
-  pub read : end ≡ ReadFault → 0 < c.receives_failed
-  pub send : end ≡ SendFault → 0 < c.sends_failed
-  pub none_failed : end ≢ ReadFault → end ≢ SendFault → (c.receives_failed ≡ 0) × (c.sends_failed ≡ 0)
+  pub all : IsSessionOf c s
+  pub served : Served config s c.coming end
+  pub prompt : IsPrompt config begun s
+  pub fails : Fails (failing_of end) (accepted []) c
 
--- each was served in order, at readings of its own, from the state that the one before it left
-abbrev pub ServedAll : Config → List Connection → List ℕ → State → State → Type 0
-ServedAll config [] moments state new = (moments ≡ []) × (new ≡ state)
-ServedAll config (c ∷ cs) moments state new =
-    (first later : List ℕ) × (mid : State) × (moments ≡ first ++ later)
-    × ServedOne config c first state mid × ServedAll config cs later mid new
+-- each was served in order, from the state that the one before it left
+abbrev pub ServedAll : Config → List Connection → List Session → State → State → Type 0
+ServedAll config [] [] state new = new ≡ state
+ServedAll config [] (s ∷ ss) state new = ⊥
+ServedAll config (c ∷ cs) [] state new = ⊥
+ServedAll config (c ∷ cs) (s ∷ ss) state new =
+    (s.before ≡ state) × ServedOne config c s × ServedAll config cs ss s.after new
+
+-- what was done on connections one after another, and the readings that were taken
+abbrev pub acts_of : List Session → List Act
+acts_of [] = []
+acts_of (s ∷ ss) = accept ∷ s.acts ++ acts_of ss
+
+abbrev pub readings_of : List Session → List ℕ
+readings_of [] = []
+readings_of (s ∷ ss) = s.readings ++ readings_of ss
+
+-- these connections came, and this was done on them
+pub record Comes (old new : Told) (state after : State) (came : List Connection) (sessions : List Session)
+    : Type 0 where
+  pub behind : new.connections ≡ old.connections ++ came
+  pub read : new.readings ≡ old.readings ++ readings_of sessions
+  pub does : Does old new state after (acts_of sessions)
 
 -- so many connections came and were served
-pub record Serves {S : Type 0} (connections : S → List Connection) (readings : S → List ℕ)
-    (to_come : S → ℕ) (config : Config) (old new : S) (state after : State) (count : ℕ) : Type 0 where
+pub record Serves (config : Config) (old new : Told) (state after : State) (count : ℕ) : Type 0 where
   pub came : List Connection
-  pub moments : List ℕ
-  pub behind : connections new ≡ connections old ++ came
+  pub sessions : List Session
+  pub comes : Comes old new state after came sessions
   pub number : length came ≡ count
-  pub fewer : to_come old ≡ count + to_come new
-  pub read : readings new ≡ readings old ++ moments
-  pub each : ServedAll config came moments state after
+  pub fewer : old.listener.to_come ≡ count + new.listener.to_come
+  pub each : ServedAll config came sessions state after
 
--- those before the fault were served; where memory was wanting, a first part was sent on the last
-abbrev pub ServedTill : Config → ServeFault → List Connection → List ℕ → State → Type 0
-ServedTill config Accept came moments state =
-    (after : State) × ServedAll config came moments state after
-ServedTill config Memory came moments state =
-    (first : List Connection) × (last : Connection) × (before here : List ℕ) × (mid new : State)
-    × (came ≡ first ++ last ∷ []) × (moments ≡ before ++ here)
-    × ServedAll config first before state mid × Part config last.taken last.sent here mid new
+-- those before the last were served; on it all was done for the messages before the last, and nothing
+-- for that
+pub record BreaksLast (config : Config) (came : List Connection) (sessions : List Session) (state : State)
+    : Type 0 where
+  pub first : List Connection
+  pub last : Connection
+  pub before : List Session
+  pub here : Session
+  pub came_are : came ≡ first ++ last ∷ []
+  pub sessions_are : sessions ≡ before ++ here ∷ []
+  pub served : ServedAll config first before state here.before
+  pub all : IsSessionOf last here
+  pub part : Part config here
+  pub nothing : NothingForLast config here part.1
+  pub prompt : IsPrompt config begun here
+
+-- what was served before the fault
+abbrev pub ServedTill : Config → ServeFault → List Connection → List Session → State → State → Type 0
+ServedTill config Accept came sessions state after = ServedAll config came sessions state after
+ServedTill config Memory came sessions state after = BreaksLast config came sessions state
 
 -- some connections came, at most so many, and then the server stopped
-pub record Breaks {S : Type 0} (connections : S → List Connection) (readings : S → List ℕ)
-    (config : Config) (old new : S) (state : State) (most : ℕ) (fault : ServeFault) : Type 0 where
+pub record Breaks (config : Config) (old new : Told) (state : State) (most : ℕ) (fault : ServeFault)
+    : Type 0 where
   pub came : List Connection
-  pub moments : List ℕ
+  pub sessions : List Session
+  pub after : State
+  pub comes : Comes old new state after came sessions
   pub few : length came ≤ most
-  pub behind : connections new ≡ connections old ++ came
-  pub read : readings new ≡ readings old ++ moments
-  pub till : ServedTill config fault came moments state
+  pub till : ServedTill config fault came sessions state after
 
--- a connection was just accepted, and no reading was taken
-abbrev pub JustAccepted : {S : Type 0} → (S → List Connection) → (S → List ℕ) → S → S → Type 0
-JustAccepted connections readings old new =
-    (input : List ℕ) × (connections new ≡ connections old ++ accepted input ∷ [])
-    × (readings new ≡ readings old)
+-- memory was wanting before the first connection, and nothing was done
+abbrev pub NeverBegan : ServeFault → Told → Told → Type 0
+NeverBegan fault old new =
+    (fault ≡ Memory) × (new.connections ≡ old.connections) × (new.readings ≡ old.readings)
+
+-- how the server stopped
+abbrev pub Broken : Config → Told → Told → State → ℕ → ServeFault → Type 0
+Broken config old new state most fault =
+    Breaks config old new state most fault ⊎ NeverBegan fault old new
+
+-- a connection was just accepted, and nothing else was done
+pub record JustAccepted (old new : Told) (state : State) : Type 0 where
+  pub input : List ℕ
+  pub next : new.connections ≡ old.connections ++ accepted input ∷ []
+  pub readings : new.readings ≡ old.readings
+  pub fewer : old.listener.to_come ≡ 1 + new.listener.to_come
+  pub does : Does old new state state (accept ∷ [])
+
+-- the listener's count of failed calls shows whether an accept failed last
+abbrev pub Accepting : {T : Type 0} → Result T ServeFault → Told → Told → Type 0
+Accepting (Ok x) old new = new.listener.faults ≡ old.listener.faults
+Accepting (Err Memory) old new = new.listener.faults ≡ old.listener.faults
+Accepting (Err Accept) old new = new.listener.faults ≡ one_more old.listener.faults
+
+-- what calls of the listener and on its connections keep, on every form: no connection is open then,
+-- it listens, and no name was told to the outside
+pub record ServesOn (old new : Told) : Type 0 where
+  pub free : new.connected ≡ false
+  pub listening : new.listener.listening ≡ true
+  pub addresses : new.listener.addresses ≡ old.listener.addresses
+  pub folders : new.folders ≡ old.folders
+  pub accepts : old.listener.faults ≤ new.listener.faults
+  pub receives : old.receive_faults ≤ new.receive_faults
+  pub sends : old.send_faults ≤ new.send_faults

@@ -9,25 +9,26 @@ use Rattle.std.proofs.lemmas.List.Folds.{list_any_at}
 use Rattle.glacier_base.specs.Dates.{basic_of}
 use Rattle.glacier_base.specs.Names.{is_region}
 use Rattle.glacier_base.specs.declared.moment.TheConstants.{LAST_MOMENT}
+use Rattle.glacier_base.proofs.BasicMoment.{shown_is_read}
+use Rattle.glacier_base.proofs.LackLemmas.{lacks}
 use Rattle.glacier_http.specs.Fields.{lower, same_text, values_of}
 use Rattle.glacier_http.specs.Judged.{is_empty}
 use Rattle.glacier_http.specs.View.{HeadText}
 use Rattle.glacier_sigv4.specs.Authorization.{AuthorizationText, names_in, rises_from, authorization_of, credential_of}
-use Rattle.glacier_sigv4.specs.Canonical.{canonical_of, front_text, signed_text}
+use Rattle.glacier_sigv4.specs.Canonical.{RequestText, canonical_of, front_text, signed_text}
 use Rattle.glacier_sigv4.specs.Rings.{is_access}
-use Rattle.glacier_sigv4.specs.Sign.{CanSign, names_of, credential_text, signed_authorization}
-use Rattle.glacier_sigv4.specs.Signed.{is_present, are_present, is_signed, is_of_amazon, is_unsigned, unsigned_in, unsigned_host, first_unsigned, least_of}
-use Rattle.glacier_sigv4.specs.Signs.{IsSignedHead, SignsFor}
+use Rattle.glacier_sigv4.specs.CanonicalFields.{names_of}
+use Rattle.glacier_sigv4.specs.Signing.{CanSign, credential_text, signed_authorization, IsSignedHead, SignsFor}
+use Rattle.glacier_sigv4.specs.Coverage.{is_present, are_present, is_signed, is_of_amazon, is_unsigned, unsigned_in, unsigned_host, first_unsigned, least_of}
 use Rattle.glacier_sigv4.specs.ToSign.{day_of, signature_of}
-use Rattle.glacier_sigv4.specs.Values.{field_texts, canonical_value}
-use Rattle.glacier_sigv4.specs.Verified.{ClaimText, IsDated, IsVerified, is_signed_by, claim_in, claim_of, claim_from, canonical_head, is_skewed, is_in_scope, judged, judged_key, judged_names, verdict}
+use Rattle.glacier_sigv4.specs.CanonicalFields.{field_texts, canonical_value}
+use Rattle.glacier_sigv4.specs.Verdict.{Verdict, ClaimText, claim_in, claim_of, claim_from, is_in_scope, is_skewed, request_in, is_signed_by, unless_unsigned, judged, judged_key, verdict}
 use Rattle.glacier_sigv4.specs.declared.auth_fault.AuthFault.TheVariants.{Malformed, WrongScope, Skewed, BadSignature}
 use Rattle.glacier_sigv4.specs.declared.ring.Entry.{Entry}
 use Rattle.glacier_sigv4.specs.declared.ring.Keys.{Keys}
 use Rattle.glacier_sigv4.proofs.DayLemmas.{day_is_day}
 use Rattle.glacier_sigv4.proofs.DigestLemmas.{code_is_signature}
 use Rattle.glacier_sigv4.proofs.FoundLemmas.{FindsKeys, finds_keys}
-use Rattle.glacier_base.proofs.LackLemmas.{lacks}
 use Rattle.glacier_sigv4.proofs.OnceLemmas.{IsOnce, each_once}
 use Rattle.glacier_sigv4.proofs.ReadBackLemmas.{credential_with, credential_written, credential_lacks, credential_again, authorization_again}
 use Rattle.glacier_sigv4.proofs.TokenLemmas.{names_again, joined_lacks}
@@ -66,10 +67,10 @@ same_texts fields others [] a b = refl
 same_texts fields others (pair ∷ pairs) a b =
     ap₂ (λ (vs : List (List ℕ)) (rest : List ℕ). pair.0 ++ codes ":" ++ join_with_byte 44 (map canonical_value vs) ++ codes "\n" ++ rest) (a.0 ∙ sym b.0) (same_texts fields others pairs a.1 b.1)
 
-module _ (keys : Keys) (region : List ℕ) (moment : ℕ) (method path query : List ℕ) (pairs : List (List ℕ × List ℕ)) (payload : List ℕ)
-    (can : CanSign pairs moment) (within : moment ≤ LAST_MOMENT) (place : is_region region ≡ true) where
+module _ (keys : Keys) (region : List ℕ) (moment : ℕ) (request : RequestText)
+    (can : CanSign request.fields moment) (within : moment ≤ LAST_MOMENT) (place : is_region region ≡ true) where
   abbrev names : List (List ℕ)
-  names = names_of pairs
+  names = names_of request.fields
 
   abbrev joined : List ℕ
   joined = join_with_byte 59 names
@@ -78,13 +79,13 @@ module _ (keys : Keys) (region : List ℕ) (moment : ℕ) (method path query : L
   date = basic_of moment
 
   abbrev canonical : List ℕ
-  canonical = canonical_of method path query pairs names payload
+  canonical = canonical_of request names
 
   abbrev signature : List ℕ
   signature = signature_of keys.secret date region canonical
 
   abbrev authorization : List ℕ
-  authorization = signed_authorization keys region moment method path query pairs payload
+  authorization = signed_authorization keys region moment request
 
   -- what the Authorization says
   abbrev said : AuthorizationText
@@ -109,9 +110,9 @@ module _ (keys : Keys) (region : List ℕ) (moment : ℕ) (method path query : L
       (code_is_signature _ _)
 
   module _ (ring : List Entry) (head : HeadText) (reading : ℕ) (finds : FindsKeys ring keys)
-      (shows : IsSignedHead head method path query pairs authorization) (near : is_skewed moment reading ≡ false) where
-    once_in_head : AllByRecursion (IsOnce head.fields) pairs
-    once_in_head = recursion_from_All (IsOnce head.fields) pairs shows.fields
+      (shows : IsSignedHead head request authorization) (near : is_skewed moment reading ≡ false) where
+    once_in_head : AllByRecursion (IsOnce head.fields) request.fields
+    once_in_head = recursion_from_All (IsOnce head.fields) request.fields shows.fields
 
     dates : values_of (codes "x-amz-date") head.fields ≡ date ∷ []
     dates =
@@ -121,11 +122,11 @@ module _ (keys : Keys) (region : List ℕ) (moment : ℕ) (method path query : L
     key : is_access keys.access ≡ true
     key = subst (λ (ks : Keys). is_access ks.access ≡ true) finds.keys_are (and_parts (is_access finds.entry.keys.access) _ finds.rules).0
 
-    claims : claim_in head (Some moment) ≡ Ok claim
+    claims : claim_in head ≡ Ok claim
     claims =
-        ap₂ (λ one two. claim_of one two head.fields (Some moment)) shows.authorization_is dates
-        ∙ ap (λ a. claim_from head.fields a (Some moment)) (says key)
-        ∙ ap (λ t. cond t (Ok claim) (Err Malformed)) (ap (are_present head.fields) again ∙ all_present head.fields pairs once_in_head)
+        ap₂ (claim_of head.fields) shows.authorization_is dates
+        ∙ ap₂ (claim_from head.fields) (says key) (shown_is_read moment date within refl)
+        ∙ ap (λ t. cond t (Ok claim) (Err Malformed)) (ap (are_present head.fields) again ∙ all_present head.fields request.fields once_in_head)
 
     in_scope : is_in_scope date region said.credential ≡ true
     in_scope =
@@ -137,38 +138,33 @@ module _ (keys : Keys) (region : List ℕ) (moment : ℕ) (method path query : L
         ∙ ap₂ (λ a b. least_of None (a ++ b)) (host_signed names can.host)
         (none_unsigned names head.fields (recursion_from_All _ head.fields shows.others))
 
-    same_canonical : canonical_head head joined payload ≡ canonical
+    same_canonical : canonical_of (request_in head request.payload) (names_in joined) ≡ canonical
     same_canonical =
-        let front : front_text head.method head.path (unwrap_or head.query []) ≡ front_text method path query =
+        let front : front_text head.method head.path (unwrap_or head.query []) ≡ front_text request.method request.path request.query =
         λ i. front_text (shows.method_is i) (shows.path_is i) (shows.query_is i) in
-        let lines : signed_text head.fields names payload ≡ signed_text pairs names payload =
-        ap (λ l. l ++ codes "\n" ++ join_with_byte 59 names ++ codes "\n" ++ payload)
-        (same_texts head.fields pairs pairs once_in_head (each_once [] pairs can.names)) in
-        ap (λ ns. front_text head.method head.path (unwrap_or head.query []) ++ signed_text head.fields ns payload) again
-        ∙ ap₂ (λ a b. a ++ b) front lines
+        let lines : signed_text head.fields names request.payload ≡ signed_text request.fields names request.payload =
+        ap (λ l. l ++ codes "\n" ++ joined ++ codes "\n" ++ request.payload)
+        (same_texts head.fields request.fields request.fields once_in_head (each_once [] request.fields can.names)) in
+        ap (canonical_of (request_in head request.payload)) again ∙ ap₂ (λ a b. a ++ b) front lines
 
-    signs : is_signed_by finds.entry.keys.secret region head payload claim ≡ true
+    signs : is_signed_by finds.entry.keys.secret region head request.payload claim ≡ true
     signs =
         ap₂ (λ secret text. bytes_eq (signature_of secret date region text) signature) (ap (λ (ks : Keys). ks.secret) finds.keys_are) same_canonical
         ∙ nat_list_eq_equiv.refl signature
 
-    verified : IsVerified ring region head payload reading (Ok keys.account)
+    verified : verdict ring region head request.payload reading ≡ Ok keys.account
     verified =
         let entry = finds.entry in
-        let steps : verdict ring region head payload reading (Some moment) ≡ Ok keys.account =
-        ap (judged ring region head payload reading) claims
-        ∙ ap (λ e. judged_key e region head payload reading claim) finds.found
-        ∙ ap (λ t. cond t (judged_names (first_unsigned (names_in joined) head.fields) entry region head payload reading claim) (Err WrongScope)) in_scope
-        ∙ ap (λ first. judged_names first entry region head payload reading claim) all_signed
-        ∙ ap (λ t. cond t (Err (Skewed moment reading)) (cond (is_signed_by entry.keys.secret region head payload claim) (Ok entry.keys.account) (Err BadSignature))) near
-        ∙ ap (λ t. cond t (Ok entry.keys.account) (Err BadSignature)) signs
-        ∙ ap (λ (ks : Keys). Ok ks.account) finds.keys_are in
-        record {
-          moment = Some moment;
-          dated = subst (λ ds. IsDated ds (Some moment)) (sym dates) (within, refl);
-          is = sym steps;
-        }
+        let signed = is_signed_by entry.keys.secret region head request.payload claim in
+        let late : Bool → Verdict = λ t. cond t (Err (Skewed moment reading)) (cond (not signed) (Err BadSignature) (Ok entry.keys.account)) in
+        ap (judged ring region head request.payload reading) claims
+        ∙ ap (judged_key region head request.payload reading claim) finds.found
+        ∙ ap (λ t. cond (not t) (Err WrongScope) (unless_unsigned (first_unsigned (names_in joined) head.fields) (late (is_skewed moment reading)))) in_scope
+        ∙ ap (λ first. unless_unsigned first (late (is_skewed moment reading))) all_signed
+        ∙ ap late near
+        ∙ ap (λ t. cond (not t) (Err BadSignature) (Ok entry.keys.account)) signs
+        ∙ ap (λ (ks : Keys). Ok ks.account) finds.keys_are
 
   -- the law of signing
-  pub signs_for : SignsFor keys region moment method path query pairs payload authorization
+  pub signs_for : SignsFor keys region moment request authorization
   signs_for ring head reading is has shows near = verified ring head reading (finds_keys ring keys is has) shows near

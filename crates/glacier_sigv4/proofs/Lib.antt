@@ -13,9 +13,8 @@ pub mod PairLemmas
 pub mod ReadBackLemmas
 pub mod RingLemmas
 pub mod SameLemmas
-pub mod SignedLemmas
+pub mod CoverageLemmas
 pub mod SpelledLemmas
 pub mod TestLemmas
 pub mod TokenLemmas
 pub mod ValueLemmas
-pub mod VerdictLemmas

@@ -8,7 +8,7 @@ use Rattle.glacier_base.specs.Names.{is_region, is_region_byte}
 use Rattle.glacier_http.specs.Judged.{is_empty}
 use Rattle.glacier_sigv4.specs.Authorization.{CredentialText, authorization_of, credential_of, is_credential, is_day, is_signature, are_names}
 use Rattle.glacier_sigv4.specs.Rings.{is_access}
-use Rattle.glacier_sigv4.specs.Sign.{authorization_text, credential_text}
+use Rattle.glacier_sigv4.specs.Signing.{authorization_text, credential_text}
 use Rattle.glacier_sigv4.specs.ToSign.{day_of}
 use Rattle.glacier_base.proofs.LackLemmas.{lacks, lacks_from, lacks_append, cut_behind}
 

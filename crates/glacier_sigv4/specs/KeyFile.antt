@@ -1,18 +1,20 @@
 -- The key file: a line for each account.
 use Rattle.std.specs.Prelude.{ℕ, ◌+◌, Bool, ◌&&◌, not, ◌≡◌, List, [], ◌∷◌, ◌++◌, length, Option, Some, None, Result, Ok, Err, if◌then◌else◌, nat_le, nat_lt, option_and_then, option_map, ⊤}
+use Rattle.std.specs.Borrow.{Bor}
 use Rattle.std.specs.List.{list_any, slice_split}
 use Rattle.glacier_base.specs.Names.{is_account}
 use Rattle.glacier_base.specs.Cuts.{cut_at, is_byte}
 use Rattle.glacier_http.specs.Fields.{number_of}
 use Rattle.glacier_http.specs.Judged.{is_empty}
 use Rattle.glacier_sigv4.specs.declared.ring.Entry.{Entry}
+use Rattle.glacier_sigv4.specs.declared.ring.TheConstants.{MOST_BLOCKS, MOST_ACCOUNTS}
 use Rattle.glacier_sigv4.specs.declared.key_fault.KeyFault.{KeyFault}
 use Rattle.glacier_sigv4.specs.declared.key_fault.KeyFault.TheVariants.{BadLine, Memory}
-use Rattle.glacier_sigv4.specs.Rings.{most_blocks, is_access, is_secret, total_of, clashes}
+use Rattle.glacier_sigv4.specs.Rings.{is_access, is_secret, total_of, clashes}
 
 -- the number, where it is from 1 to the greatest quota
 abbrev pub where_quota : ℕ → Option ℕ
-where_quota n = if nat_le 1 n && nat_le n most_blocks then Some n else None
+where_quota n = if nat_le 1 n && nat_le n MOST_BLOCKS then Some n else None
 
 -- 1 to 7 digits of such a number
 abbrev pub quota_in : List ℕ → Option ℕ
@@ -31,14 +33,18 @@ parts_of line =
     option_map (λ quota. (account.0, access.0, secret.0, quota)) (quota_in secret.1))
     (cut_at 32 access.1)) (cut_at 32 account.1)) (cut_at 32 line)
 
+-- the parts without where they lie in memory
+abbrev pub parts_shown : Bor (List ℕ) × Bor (List ℕ) × Bor (List ℕ) × ℕ → List ℕ × List ℕ × List ℕ × ℕ
+parts_shown parts = (parts.0.now, parts.1.now, parts.2.now, parts.3)
+
 -- the entry of a line
 abbrev pub entry_of : List ℕ → Option Entry
 entry_of line = option_and_then (λ parts. entry_from parts.0 parts.1 parts.2 parts.3) (parts_of line)
 
--- the entry clashes with none, is at most the 64th, and leaves the sum of quotas within its bound
+-- the entry clashes with none, isn't one too many, and leaves the sum of quotas within its bound
 abbrev pub fits : List Entry → Entry → Bool
 fits entries entry =
-    nat_lt (length entries) 64 && (not (list_any (clashes entry) entries) && nat_le (total_of entries + entry.quota) most_blocks)
+    nat_lt (length entries) MOST_ACCOUNTS && (not (list_any (clashes entry) entries) && nat_le (total_of entries + entry.quota) MOST_BLOCKS)
 
 abbrev pub where_fits : List Entry → Entry → Option Entry
 where_fits entries entry = if fits entries entry then Some entry else None

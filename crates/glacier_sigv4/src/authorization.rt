@@ -4,7 +4,7 @@ ghost use Rattle.std.specs.Char.{is_ascii_digit};
 ghost use Rattle.std.specs.List.{list_all};
 ghost use Rattle.glacier_sigv4.specs.Authorization.{is_lower_hex, behind_word as word_left, behind_spaces as spaces_left, labelled as labelled_part, is_day as day_test, is_signature as signature_test};
 
-use crate::names::are_names;
+use crate::signed_names::are_names;
 use glacier_base::cut;
 
 /// The access key, and the scope that it is used for.

@@ -2,21 +2,14 @@
 ghost use Rattle.std.specs.Prelude.{◌≡◌, ◌<◌, ◌≤◌, ◌∷◌, ◌++◌, [], length, IfOk, IfErr, OnOk, option_map};
 ghost use Rattle.std.specs.Char.{is_ascii_alphanumeric};
 ghost use Rattle.std.specs.List.{list_all, list_any};
-ghost use Rattle.glacier_sigv4.specs.Rings.{is_visible, is_access as access_test, is_secret as secret_test, clashes as clashes_with, total_of, most_blocks, AreEntries};
-ghost use Rattle.glacier_sigv4.specs.KeyFile.{quota_in, parts_of, entry_of, entry_from as entry_of_parts, fits as fits_test, next_entry, lines_of, entries_from, entries_of, Blames};
-ghost use Rattle.glacier_sigv4.specs.Lines.{parts_shown};
+ghost use Rattle.glacier_sigv4.specs.Rings.{is_visible, is_access as access_test, is_secret as secret_test, clashes as clashes_with, total_of, AreEntries};
+ghost use Rattle.glacier_sigv4.specs.KeyFile.{quota_in, parts_of, entry_of, entry_from as entry_of_parts, fits as fits_test, next_entry, lines_of, entries_from, entries_of, Blames, parts_shown};
 
 use crate::key_fault::KeyFault;
-use crate::ring::{Entry, KeyRing, Keys, total};
+use crate::ring::{Entry, KeyRing, Keys, LONGEST_KEY, MOST_ACCOUNTS, MOST_BLOCKS, total};
 use glacier_base::{Account, Memory, Text, cut};
 use glacier_http::number;
 use std::alloc::Global;
-
-/// The greatest quota, and the greatest sum of quotas, in blocks.
-const MOST_BLOCKS: u64 = 1_048_576;
-
-/// How many accounts a key file may have.
-const MOST_ENTRIES: usize = 64;
 
 fn are_letters_or_digits(text: &[u8]) -> bool
     ensures { result ≡ list_all is_ascii_alphanumeric text.now }
@@ -33,13 +26,13 @@ fn are_visible(text: &[u8]) -> bool
 fn is_access(text: &[u8]) -> bool
     ensures { result ≡ access_test text.now }
 {
-    !text.is_empty() && text.len() <= 128 && are_letters_or_digits(text)
+    !text.is_empty() && text.len() <= LONGEST_KEY && are_letters_or_digits(text)
 }
 
 fn is_secret(text: &[u8]) -> bool
     ensures { result ≡ secret_test text.now }
 {
-    !text.is_empty() && text.len() <= 128 && are_visible(text)
+    !text.is_empty() && text.len() <= LONGEST_KEY && are_visible(text)
 }
 
 fn quota(text: &[u8]) -> Option<u64>
@@ -113,10 +106,10 @@ fn clashes(entries: &[Entry], entry: &Entry) -> bool
 
 /// Whether the entry may stand behind these.
 fn fits(entries: &[Entry], entry: &Entry) -> bool
-    requires { total_of entries.now ≤ most_blocks }
+    requires { total_of entries.now ≤ MOST_BLOCKS }
     ensures { result ≡ fits_test entries.now entry.now }
 {
-    if entries.len() >= MOST_ENTRIES {
+    if entries.len() >= MOST_ACCOUNTS {
         return false;
     }
     if clashes(entries, entry) {
@@ -127,7 +120,7 @@ fn fits(entries: &[Entry], entry: &Entry) -> bool
 
 /// The entry of a line behind these, unless the line is bad.
 fn read_next(alloc: Global, entries: &[Entry], text: &[u8]) -> Result<Option<Entry>, Memory>
-    requires { total_of entries.now ≤ most_blocks }
+    requires { total_of entries.now ≤ MOST_BLOCKS }
     ensures { IfOk result (λ entry. entry ≡ next_entry entries.now text.now) }
 {
     let Some(entry) = read_entry(alloc, text)? else {

@@ -1,0 +1,15 @@
+use Rattle.std.proofs.Common.{◌≡◌, ◌≤◌, ◌-◌, IsTrue}
+use Rattle.glacier_server.specs.Serving.{Serves, ServesOn}
+use Rattle.glacier_server.proofs.server.serve.Given as goal
+
+abbrev pub invariant-connections : goal.invariant-connections
+invariant-connections g l = record {
+  most : l.count ≤ l.fn.connections;
+  served : IsTrue g.S.Disk.tells → Serves l.fn.config (g.S.Disk.told l.fn.station)
+      (g.S.Disk.told l.station) l.initial.store l.store l.count;
+  kept : ServesOn (g.S.Disk.told l.fn.station) (g.S.Disk.told l.station);
+  accepts : (g.S.Disk.told l.station).listener.faults ≡ (g.S.Disk.told l.fn.station).listener.faults;
+}
+
+abbrev pub decreases-connections : goal.decreases-connections
+decreases-connections g l = l.fn.connections - l.count

@@ -1,0 +1,18 @@
+use Rattle.std.proofs.Common.{◌<◌, ◌-◌, IsTrue}
+use Rattle.glacier_http.specs.declared.limits.TheConstants.{MOST_MESSAGES}
+use Rattle.glacier_server.specs.Exchange.{standing}
+use Rattle.glacier_server.specs.Transfer.{Keeps, nothing}
+use Rattle.glacier_server.proofs.ConnectionLemmas.{SoFarLast}
+use Rattle.glacier_server.proofs.service.Service.serve_open.Given as goal
+
+abbrev pub invariant-messages : goal.invariant-messages
+invariant-messages g l = record {
+  below : l.count < MOST_MESSAGES;
+  so_far : IsTrue g.S.Disk.tells →
+      SoFarLast l.self.config.now (g.S.Disk.told l.fn.station) (g.S.Disk.told l.station) l.initial.store
+      (standing l.count l.buffers.unread l.store);
+  keeps : Keeps (g.S.Disk.told l.fn.station) (g.S.Disk.told l.station) nothing;
+}
+
+abbrev pub decreases-messages : goal.decreases-messages
+decreases-messages g l = MOST_MESSAGES - l.count

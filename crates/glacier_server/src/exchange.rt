@@ -1,0 +1,195 @@
+// One message more on a connection.
+ghost use Rattle.std.specs.Prelude.{◌≡◌, ◌+◌, [], ◌==◌, ◌<◌, ◌≤◌, ◌^◌, IsTrue, length, Some, None, true, IfOk, OnErr};
+ghost use Rattle.glacier_http.specs.Messages.{bad as Bad, last_end, end_of_rest};
+ghost use Rattle.glacier_http.specs.Step.{IsStep};
+ghost use Rattle.glacier_http.specs.declared.head_spans.HeadStep.TheVariants as step;
+ghost use Rattle.glacier_server.specs.Exchange.{Exchanges, BreaksOff, Standing, BadStands, standing, failing_at, failing_in, failing_on, end_for, end_for_some, end_of_good};
+ghost use Rattle.glacier_server.specs.Served.{failing_of};
+ghost use Rattle.glacier_server.specs.Transfer.{nothing, Keeps};
+
+use crate::Store;
+use crate::body::{front_of, take_body};
+use crate::buffers::Buffers;
+use crate::end::End;
+use crate::extent::extent_of;
+use crate::next_head::next_head;
+use crate::read_buffer::ReadBuffer;
+use crate::reply_sender::{MOST_AT_ONCE, Stamp, send_reply};
+use crate::service::Service;
+use glacier_base::Memory;
+use glacier_disk::Station;
+use glacier_http::{BadHead, HeadSpans, HeadStep, MOST_MESSAGES};
+
+/// The end that a bad head makes.
+fn bad_end(count: u64) -> End
+    requires { count < MOST_MESSAGES }
+    ensures end { (cause : _) → end_for_some (last_end count (Bad cause)) ≡ Some result }
+    ensures of_none { failing_of result ≡ nothing }
+{
+    if count + 1 == MOST_MESSAGES {
+        End::Bound
+    } else {
+        End::Refused
+    }
+}
+
+/// The end that a good message makes, if any.
+fn good_end(count: u64, close: bool) -> Option<End>
+    requires { count < MOST_MESSAGES }
+    ensures end { result ≡ end_of_good count close }
+    ensures of_none { failing_at result ≡ nothing }
+    ensures below { result ≡ None → count + 1 < MOST_MESSAGES }
+{
+    if count + 1 == MOST_MESSAGES {
+        Some(End::Bound)
+    } else if close {
+        Some(End::Closed)
+    } else {
+        None
+    }
+}
+
+/// The end of an input that has no last message.
+fn ended(unread: &ReadBuffer) -> End
+    ensures end { result ≡ end_for (end_of_rest unread.now) }
+    ensures of_none { failing_of result ≡ nothing }
+{
+    let bytes = unread.bytes();
+    if bytes.is_empty() {
+        End::Closed
+    } else {
+        End::Cut {
+            taken: bytes.len() as u64,
+        }
+    }
+}
+
+impl Service<'_> {
+    /// Answers a bad head, which ends the connection.
+    #[tactic(auto, using(crate::proofs::KeepLemmas::kept))]
+    fn refuse<S: Station>(
+        &self,
+        station: &mut S,
+        buffer: &mut [u8],
+        cause: BadHead,
+        count: u64,
+    ) -> Result<End, Memory>
+        requires connected { (S.told station.old).connected ≡ true }
+        requires room { length buffer.old ≡ MOST_AT_ONCE }
+        requires below { count < MOST_MESSAGES }
+        ensures exchange { IsTrue S.tells → (from : Standing) → BadStands from count cause →
+            IfOk result (λ end. Exchanges self.now.config.now from
+            (standing (count + 1) from.unread from.state) (S.told station.old) (S.told station.new)
+            (Some end)) }
+        ensures broken { IsTrue S.tells → (from : Standing) → BadStands from count cause →
+            OnErr result (BreaksOff self.now.config.now from (S.told station.old) (S.told
+            station.new)) }
+        ensures keeps { Keeps (S.told station.old) (S.told station.new) (failing_on result) }
+    {
+        let date = station.now();
+        let reply = match self.reply_to_bad(cause) {
+            Ok(reply) => reply,
+            Err(error) => return Err(error),
+        };
+        let stamp = Stamp { date, close: true };
+        match send_reply(station, &reply, &stamp, buffer) {
+            Ok(()) => Ok(bad_end(count)),
+            Err(_) => Ok(End::SendFault),
+        }
+    }
+
+    /// Answers the message whose good head stands at the front of the unread bytes.
+    #[tactic(auto, using(crate::proofs::KeepLemmas::kept))]
+    fn answer<S: Station>(
+        &self,
+        station: &mut S,
+        buffers: &mut Buffers,
+        store: &mut Store,
+        spans: &HeadSpans,
+        count: u64,
+    ) -> Result<Option<End>, Memory>
+        requires connected { (S.told station.old).connected ≡ true }
+        requires good { IsStep buffers.old.unread buffers.old.head (step.Head spans.now) }
+        requires small { spans.now.content_length ≤ 2 ^ 33 }
+        requires below { count < MOST_MESSAGES }
+        ensures exchange { IsTrue S.tells → IfOk result (λ end. Exchanges self.now.config.now
+            (standing count buffers.old.unread store.old)
+            (standing (count + 1) buffers.new.unread store.new) (S.told station.old) (S.told
+            station.new) end) }
+        ensures broken { IsTrue S.tells → OnErr result (BreaksOff self.now.config.now
+            (standing count buffers.old.unread store.old) (S.told station.old) (S.told station.new)) }
+        ensures below { result ≡ Ok None → count + 1 < MOST_MESSAGES }
+        ensures keeps { Keeps (S.told station.old) (S.told station.new) (failing_in result) }
+    {
+        let reading = station.now();
+        let length = buffers.unread.count();
+        let extent = extent_of(spans, length);
+        let here = &buffers.unread.bytes()[spans.head_length as usize..extent.used];
+        let size = spans.content_length;
+        let left = match take_body(station, &mut buffers.body, here, extent.left, size) {
+            Ok(left) => left,
+            Err(_) => return Ok(Some(End::ReadFault)),
+        };
+        if left > 0 {
+            return Ok(Some(End::Cut {
+                taken: length as u64 + (extent.left - left),
+            }));
+        }
+        let lent = &*buffers;
+        let kept = front_of(&lent.body, size);
+        let reply = match self.reply_to_message(store, lent, spans, kept, reading) {
+            Ok(reply) => reply,
+            Err(error) => return Err(error),
+        };
+        let end = good_end(count, spans.close);
+        let stamp = Stamp {
+            date: reading,
+            close: end.is_some(),
+        };
+        match send_reply(station, &reply, &stamp, &mut buffers.reply) {
+            Ok(()) => {
+                buffers.unread.skip(extent.used);
+                Ok(end)
+            }
+            Err(_) => Ok(Some(End::SendFault)),
+        }
+    }
+
+    /// Takes and answers one message more, or finds that there is none.
+    #[tactic(auto, using(crate::proofs::KeepLemmas::kept))]
+    pub fn one_message<S: Station>(
+        &self,
+        station: &mut S,
+        buffers: &mut Buffers,
+        store: &mut Store,
+        count: u64,
+    ) -> Result<Option<End>, Memory>
+        requires connected { (S.told station.old).connected ≡ true }
+        requires below { count < MOST_MESSAGES }
+        ensures exchange { IsTrue S.tells → IfOk result (λ end. Exchanges self.now.config.now
+            (standing count buffers.old.unread store.old)
+            (standing (count + 1) buffers.new.unread store.new) (S.told station.old) (S.told
+            station.new) end) }
+        ensures broken { IsTrue S.tells → OnErr result (BreaksOff self.now.config.now
+            (standing count buffers.old.unread store.old) (S.told station.old) (S.told station.new)) }
+        ensures below { result ≡ Ok None → count + 1 < MOST_MESSAGES }
+        ensures keeps { Keeps (S.told station.old) (S.told station.new) (failing_in result) }
+    {
+        match next_head(station, &mut buffers.head, &mut buffers.unread) {
+            Ok(HeadStep::Head(spans)) => {
+                match self.answer(station, buffers, store, &spans, count) {
+                    Ok(end) => Ok(end),
+                    Err(error) => Err(error),
+                }
+            }
+            Ok(HeadStep::Bad(cause)) => {
+                match self.refuse(station, &mut buffers.reply, cause, count) {
+                    Ok(end) => Ok(Some(end)),
+                    Err(error) => Err(error),
+                }
+            }
+            Ok(HeadStep::Need) => Ok(Some(ended(&buffers.unread))),
+            Err(_) => Ok(Some(End::ReadFault)),
+        }
+    }
+}

@@ -1,0 +1,115 @@
+// The connections that come, one after another.
+ghost use Rattle.std.specs.Prelude.{◌≡◌, ◌+◌, ◌<◌, ◌≤◌, IsTrue, true, false, IfOk, IfErr, if◌then◌else◌};
+ghost use Rattle.glacier_server.specs.Serving.{Serves, Breaks, Broken, JustAccepted, ServesOn, Accepting};
+
+use crate::buffers::Buffers;
+use crate::end::ServeFault;
+use crate::service::Service;
+use crate::{Config, Store};
+use glacier_disk::Station;
+use std::alloc::Global;
+
+impl Service<'_> {
+    /// Serves the connection that was just accepted, and closes it.
+    fn serve_accepted<S: Station>(
+        &self,
+        station: &mut S,
+        buffers: &mut Buffers,
+        store: Store,
+    ) -> Result<Store, ServeFault>
+        requires { (S.told station.old).connected ≡ true }
+        ensures served { IsTrue S.tells → (old : S) →
+            JustAccepted (S.told old) (S.told station.old) store → IfOk result
+            (λ after. Serves self.now.config.now (S.told old) (S.told station.new) store after 1) }
+        ensures broken { IsTrue S.tells → (old : S) →
+            JustAccepted (S.told old) (S.told station.old) store → IfErr result
+            (λ fault. Breaks self.now.config.now (S.told old) (S.told station.new) store 1 fault) }
+        ensures fault { IfErr result (λ fault. fault ≡ ServeFault.Memory) }
+        ensures kept { (S.told station.old).listener.listening ≡ true →
+            ServesOn (S.told station.old) (S.told station.new) }
+        ensures accepts { (S.told station.new).listener.faults
+            ≡ (S.told station.old).listener.faults }
+    {
+        match self.serve_open(station, buffers, store) {
+            Ok((_, after)) => {
+                station.hang_up();
+                Ok(after)
+            }
+            Err(fault) => {
+                station.hang_up();
+                Err(fault)
+            }
+        }
+    }
+
+    /// Serves the next connection. It answers false where none comes.
+    fn serve_next<S: Station>(
+        &self,
+        station: &mut S,
+        buffers: &mut Buffers,
+        store: Store,
+    ) -> Result<(bool, Store), ServeFault>
+        requires listening { (S.told station.old).listener.listening ≡ true }
+        requires free { (S.told station.old).connected ≡ false }
+        ensures served { IsTrue S.tells → IfOk result (λ r. Serves self.now.config.now
+            (S.told station.old) (S.told station.new) store r.1 (if r.0 then 1 else 0)) }
+        ensures broken { IsTrue S.tells → IfErr result (λ fault. Breaks self.now.config.now
+            (S.told station.old) (S.told station.new) store 1 fault) }
+        ensures none { IsTrue S.tells →
+            IfOk result (λ r. r.0 ≡ false → (S.told station.new).listener.to_come ≡ 0) }
+        ensures kept { ServesOn (S.told station.old) (S.told station.new) }
+        ensures accepts { Accepting result (S.told station.old) (S.told station.new) }
+    {
+        match station.accept() {
+            Ok(true) => match self.serve_accepted(station, buffers, store) {
+                Ok(after) => Ok((true, after)),
+                Err(fault) => Err(fault),
+            },
+            Ok(false) => Ok((false, store)),
+            Err(_) => Err(ServeFault::Accept),
+        }
+    }
+}
+
+/// Serves so many connections, one after another, or all that come where they are fewer. It answers
+/// how many it served. A connection on which a call fails ends alone. The memory for a connection's
+/// buffers is taken once, before the first connection.
+#[tactic(auto, using(crate::proofs::KeepLemmas::on_then))]
+pub fn serve<S: Station>(
+    alloc: Global,
+    station: &mut S,
+    store: Store,
+    config: &Config,
+    connections: u64,
+) -> Result<(u64, Store), ServeFault>
+    requires listening { (S.told station.old).listener.listening ≡ true }
+    requires free { (S.told station.old).connected ≡ false }
+    ensures served { IsTrue S.tells → IfOk result (λ r. Serves config.now (S.told station.old)
+        (S.told station.new) store r.1 r.0) }
+    ensures broken { IsTrue S.tells → IfErr result (λ fault. Broken config.now
+        (S.told station.old) (S.told station.new) store connections fault) }
+    ensures most { IfOk result (λ r. r.0 ≤ connections) }
+    ensures fewer { IsTrue S.tells →
+        IfOk result (λ r. r.0 < connections → (S.told station.new).listener.to_come ≡ 0) }
+    ensures kept { ServesOn (S.told station.old) (S.told station.new) }
+    ensures accepts { Accepting result (S.told station.old) (S.told station.new) }
+{
+    let service = Service { alloc, config };
+    let mut buffers = match Buffers::new(alloc) {
+        Ok(buffers) => buffers,
+        Err(_) => return Err(ServeFault::Memory),
+    };
+    let mut store = store;
+    let mut count = 0;
+    'connections: while count < connections {
+        match service.serve_next(station, &mut buffers, store) {
+            Ok((true, after)) => {
+                store = after;
+                count += 1;
+            }
+            Ok((false, after)) => return Ok((count, after)),
+            Err(fault) => return Err(fault),
+        }
+    }
+    Ok((count, store))
+}

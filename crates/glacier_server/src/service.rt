@@ -1,0 +1,10 @@
+// What messages are answered with.
+use crate::Config;
+use std::alloc::Global;
+
+/// What the messages of all connections are answered with.
+#[derive(Clone, Copy)]
+pub struct Service<'a> {
+    pub alloc: Global,
+    pub config: &'a Config,
+}
