@@ -40,6 +40,7 @@ module _ (config : Config) {r : ℕ} {cause : BadHead} {a b : Told} (read : (sta
     starts = refl;
     transfer = breaks_off (reading from.state r) (read from.state);
     part = bad_part config from r cause stands.1 stands.2 [] [] 0;
+    nothing = refl;
     idle = All-nil _;
   }
 

@@ -114,6 +114,7 @@ last_after config cs ds ss ts state mid served x = record {
   served = served-append config cs x.first ss x.before state mid x.here.before served x.served;
   all = x.all;
   part = x.part;
+  nothing = x.nothing;
   prompt = x.prompt;
 }
 
@@ -239,6 +240,7 @@ module _ (old start done new : Told) {state : State} (opens : JustAccepted old s
       served = x.starts;
       all = all_of x.session x.session.after x.starts refl x.transfer;
       part = x.part;
+      nothing = x.nothing;
       prompt = subst (λ (w : Wait). IsPrompt config w x.session) begins x.prompt;
     };
   }
