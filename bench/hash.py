@@ -5,8 +5,9 @@
 
 It writes a file of so many MiB (1,024 where no number is given) into a temporary folder, reads it once so that it lies
 in the page cache, and prints a table: seconds of wall and of processor time (the least of five runs, one program after
-another), megabytes a second, the speed as a ratio to Python's hashlib, and the most memory that was resident. The small program that hashes
-forked in memory is written into the same folder and built there.
+another), megabytes a second, the speed as a ratio to Python's hashlib, and the most memory that was resident. Above it
+stands how busy the machine was. The small program that hashes forked in memory is written into the same folder and
+built there.
 """
 
 import hashlib
@@ -121,11 +122,13 @@ def main():
         forked = build_forked(folder)
         if forked:
             rows.append(Row("tree_hash_forked, grain 4, file read whole", [forked, name]))
+        before = os.getloadavg()[0]
         for _ in range(RUNS):
             for row in rows:
                 if row.works:
                     row.run()
         print(f"{size} MiB, {os.cpu_count()} processors, the least of {RUNS} runs, one program after another")
+        print(f"load average over a minute: {before:.1f} before, {os.getloadavg()[0]:.1f} after")
         print(f"{'program':44} {'wall s':>8} {'cpu s':>8} {'MB/s':>8} {'ratio':>7} {'MiB':>7}")
         for row in rows:
             if not row.works:

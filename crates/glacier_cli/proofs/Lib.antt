@@ -1,3 +1,4 @@
 pub mod Filled
+pub mod Hashing
+pub mod ListenLemmas
 pub mod PartLemmas
-pub mod VisitLemmas

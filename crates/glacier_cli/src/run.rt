@@ -1,11 +1,10 @@
 // From the words of the command line to the status.
-ghost use Rattle.std.specs.Prelude.{◌≡◌, ◌≢◌, ◌⊎◌, ◌≤◌, ℕ, List, IsTrue, false, map, string_bytes, Option, Some, None};
-ghost use Rattle.glacier_base.specs.Outside.{HasRisen};
-ghost use Rattle.glacier_cli.specs.Endings.{Prints};
+ghost use Rattle.std.specs.Prelude.{◌≡◌, ◌≢◌, ℕ, List, false, map, string_bytes, Option, Some, None};
+ghost use Rattle.glacier_cli.specs.Endings.{PrintsEnding, sink_use};
+ghost use Rattle.glacier_cli.specs.FileUse.{KeepsContents, file_use};
 ghost use Rattle.glacier_cli.specs.Forms.{form_of, hash as hash_form, serve as serve_form};
-ghost use Rattle.glacier_cli.specs.Runs.{StandsFor, PrintsHash, PrintsServed};
-ghost use Rattle.glacier_cli.specs.Seen.{seen};
-ghost use Rattle.glacier_cli.specs.Visits.{visit};
+ghost use Rattle.glacier_cli.specs.Program.{StandsFor, HashRun, ServeRun, UsageRun, HasReason};
+ghost use Rattle.glacier_cli.specs.StationUse.{station_use};
 
 use crate::command::Command;
 use crate::ending::Ending;
@@ -16,7 +15,7 @@ use glacier_disk::Station;
 use std::alloc::Global;
 use std::thread::Threads;
 
-// Does what the words say.
+/// Does what the words say.
 fn ending_of<R: Threads + Sync, F: Files, S: Station>(
     rt: &R,
     alloc: Global,
@@ -24,20 +23,15 @@ fn ending_of<R: Threads + Sync, F: Files, S: Station>(
     files: &mut F,
     station: &mut S,
 ) -> Ending
-    requires deaf { S.is_listening station.old ≡ false }
-    requires free { S.is_connected station.old ≡ false }
+    requires not_listening { (S.told station.old).listener.listening ≡ false }
+    requires not_connected { (S.told station.old).connected ≡ false }
     ensures stands { StandsFor (form_of (map string_bytes words.now))
-        (seen F.tells F.content F.rest F.names F.read_faults files.old files.new)
-        (visit S.tells S.connections S.readings S.to_come S.addresses S.folders S.accept_faults
-        station.old station.new)
-        result }
-    ensures content { IsTrue F.tells → (key : Option (List ℕ)) →
-        F.content files.new key ≡ F.content files.old key }
+        (file_use F.tells (F.told files.old) (F.told files.new))
+        (station_use S.tells (S.told station.old) (S.told station.new)) result }
+    ensures contents { KeepsContents (file_use F.tells (F.told files.old) (F.told files.new)) }
     ensures alone { ((address : List ℕ) →
         form_of (map string_bytes words.now) ≢ Some (serve_form address)) →
         station.new ≡ station.old }
-    ensures later { F.read_faults files.old ≤ F.read_faults files.new }
-    ensures accepts { S.accept_faults station.old ≤ S.accept_faults station.new }
 {
     match Command::of(words) {
         Some(Command::Hash(name)) => hash(rt, alloc, name, files),
@@ -63,60 +57,37 @@ pub fn run<R: Threads + Sync, F: Files, S: Station, O: Sink>(
     station: &mut S,
     out: &mut O,
 ) -> u8
-    requires closed { S.is_open station.old ≡ false }
-    requires deaf { S.is_listening station.old ≡ false }
-    requires free { S.is_connected station.old ≡ false }
-    ensures ends { (ending : Ending) × StandsFor (form_of (map string_bytes words.now))
-        (seen F.tells F.content F.rest F.names F.read_faults files.old files.new)
-        (visit S.tells S.connections S.readings S.to_come S.addresses S.folders S.accept_faults
-        station.old station.new)
-        ending
-        × Prints O.tells (O.written out.old) (O.written out.new)
-        (HasRisen (O.sink_faults out.old) (O.sink_faults out.new)) ending result }
+    requires closed { (S.told station.old).opened ≡ false }
+    requires not_listening { (S.told station.old).listener.listening ≡ false }
+    requires not_connected { (S.told station.old).connected ≡ false }
 
-    // Status 0: the content was read to its end, and the line is its tree hash; or connections were
-    // served, and the line is their number.
+    // One ending stands for the words and for what was done, and is printed.
+    ensures ends { (ending : Ending) × StandsFor (form_of (map string_bytes words.now))
+        (file_use F.tells (F.told files.old) (F.told files.new))
+        (station_use S.tells (S.told station.old) (S.told station.new)) ending
+        × PrintsEnding (sink_use O.tells (O.told out.old) (O.told out.new)) ending result }
+
+    // What each form does, and words of no form.
     ensures hash { (name : Option (List ℕ)) →
         form_of (map string_bytes words.now) ≡ Some (hash_form name) →
-        IsTrue F.tells → IsTrue O.tells → result ≡ 0 → PrintsHash
-        (seen F.tells F.content F.rest F.names F.read_faults files.old files.new)
-        name (O.written out.old) (O.written out.new) }
+        HashRun (file_use F.tells (F.told files.old) (F.told files.new))
+        (sink_use O.tells (O.told out.old) (O.told out.new)) name result }
     ensures serve { (address : List ℕ) →
         form_of (map string_bytes words.now) ≡ Some (serve_form address) →
-        IsTrue S.tells → IsTrue O.tells → result ≡ 0 → PrintsServed
-        (visit S.tells S.connections S.readings S.to_come S.addresses S.folders S.accept_faults
-        station.old station.new)
-        address (O.written out.old) (O.written out.new) }
-
-    // Status 2: where the words are none of the forms; then nothing was opened, not standard input
-    // either.
-    ensures usage { result ≡ 2 → form_of (map string_bytes words.now) ≡ None }
-    ensures no_form { form_of (map string_bytes words.now) ≡ None → (result ≡ 2) ⊎ (result ≡ 7) }
-    ensures nothing_opened { form_of (map string_bytes words.now) ≡ None → IsTrue F.tells →
-        F.names files.new ≡ F.names files.old }
-
-    // Statuses 3, 6 and 7: only where a read, a call of the listener, or a write to the sink failed.
-    ensures file_fault { result ≡ 3 → HasRisen (F.read_faults files.old) (F.read_faults files.new) }
-    ensures listener_fault { result ≡ 6 →
-        HasRisen (S.accept_faults station.old) (S.accept_faults station.new) }
-    ensures sink_fault { result ≡ 7 → HasRisen (O.sink_faults out.old) (O.sink_faults out.new) }
-    ensures hash_without_fault { (name : Option (List ℕ)) →
-        form_of (map string_bytes words.now) ≡ Some (hash_form name) →
-        (HasRisen (F.read_faults files.old) (F.read_faults files.new) → ⊥) →
-        (HasRisen (O.sink_faults out.old) (O.sink_faults out.new) → ⊥) →
-        (result ≡ 0) ⊎ (result ≡ 4) }
-    ensures serve_without_fault { (address : List ℕ) →
-        form_of (map string_bytes words.now) ≡ Some (serve_form address) →
-        (HasRisen (S.accept_faults station.old) (S.accept_faults station.new) → ⊥) →
-        (HasRisen (O.sink_faults out.old) (O.sink_faults out.new) → ⊥) →
-        (result ≡ 0) ⊎ (result ≡ 4) }
+        ServeRun (station_use S.tells (S.told station.old) (S.told station.new))
+        (sink_use O.tells (O.told out.old) (O.told out.new)) address result }
+    ensures usage { form_of (map string_bytes words.now) ≡ None →
+        UsageRun (file_use F.tells (F.told files.old) (F.told files.new)) result }
+    ensures reason { HasReason (form_of (map string_bytes words.now))
+        (file_use F.tells (F.told files.old) (F.told files.new))
+        (station_use S.tells (S.told station.old) (S.told station.new))
+        (sink_use O.tells (O.told out.old) (O.told out.new)) result }
 
     // No content changes, and `serve` alone does anything at the station.
-    ensures content { IsTrue F.tells → (key : Option (List ℕ)) →
-        F.content files.new key ≡ F.content files.old key }
-    ensures alone { ((address : List ℕ) →
+    ensures alone { KeepsContents (file_use F.tells (F.told files.old) (F.told files.new))
+        × (((address : List ℕ) →
         form_of (map string_bytes words.now) ≢ Some (serve_form address)) →
-        station.new ≡ station.old }
+        station.new ≡ station.old) }
 {
     ending_of(rt, alloc, words, files, station).print(out)
 }

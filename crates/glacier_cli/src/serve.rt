@@ -1,7 +1,7 @@
 // Serving at an address.
-ghost use Rattle.std.specs.Prelude.{◌≡◌, ◌≤◌, false};
-ghost use Rattle.glacier_cli.specs.Runs.{ServeEnds};
-ghost use Rattle.glacier_cli.specs.Visits.{visit, default_config, most_connections};
+ghost use Rattle.std.specs.Prelude.{◌≡◌, false};
+ghost use Rattle.glacier_cli.specs.Program.{ServeEnds};
+ghost use Rattle.glacier_cli.specs.StationUse.{default_config, station_use};
 
 use crate::ending::Ending;
 use glacier_base::Region;
@@ -10,9 +10,9 @@ use glacier_server::{Config, ServeFault, Store, serve};
 use std::alloc::Global;
 
 /// How many connections are served at most.
-const CONNECTIONS: u64 = 1_000_000;
+pub const CONNECTIONS: u64 = 1_000_000;
 
-// The region and the delays of a server that is told of no others.
+/// The region and the delays of a server that is told of no others.
 fn default_config() -> Config
     ensures { result ≡ default_config }
 {
@@ -25,15 +25,12 @@ fn default_config() -> Config
     }
 }
 
-// Listens at the address, and serves the connections that come, one after another.
+/// Listens at the address, and serves the connections that come, one after another.
 pub(crate) fn serve_at<S: Station>(alloc: Global, address: &str, station: &mut S) -> Ending
-    requires deaf { S.is_listening station.old ≡ false }
-    requires free { S.is_connected station.old ≡ false }
-    ensures ends { ServeEnds
-        (visit S.tells S.connections S.readings S.to_come S.addresses S.folders S.accept_faults
-        station.old station.new)
+    requires not_listening { (S.told station.old).listener.listening ≡ false }
+    requires not_connected { (S.told station.old).connected ≡ false }
+    ensures { ServeEnds (station_use S.tells (S.told station.old) (S.told station.new))
         address.now result }
-    ensures later { S.accept_faults station.old ≤ S.accept_faults station.new }
 {
     if station.listen(address).is_err() {
         return Ending::ListenerFault;

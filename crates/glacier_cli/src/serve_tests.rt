@@ -65,9 +65,9 @@ fn printed_status<R: Threads + Sync, S: Station>(
     sink_fails: &[u64],
     printed: &str,
 ) -> Option<(u8, bool)>
-    requires closed { S.is_open station.old ≡ false }
-    requires deaf { S.is_listening station.old ≡ false }
-    requires free { S.is_connected station.old ≡ false }
+    requires closed { (S.told station.old).opened ≡ false }
+    requires not_listening { (S.told station.old).listener.listening ≡ false }
+    requires not_connected { (S.told station.old).connected ≡ false }
 {
     let mut files = MemFiles::new(alloc, Text::new(alloc), List::new(alloc));
     let mut out = MemSink::new(alloc, failing(alloc, sink_fails).ok()?);

@@ -1,46 +1,65 @@
-use Rattle.std.proofs.Common.{◌≡◌, ◌⊎◌, ◌++◌, ◌∷◌, [], IsTrue, rules, arith, refl, inr, subst, sym, ◌∙◌}
-use Rattle.glacier_cli.specs.Runs.{ServeEnds}
-use Rattle.glacier_cli.specs.Visits.{visit, BreaksAt}
-use Rattle.glacier_cli.proofs.VisitLemmas.{none_came, breaks_at, serves_at}
+use Rattle.std.proofs.Common.{◌≡◌, ◌⊎◌, ◌++◌, ◌∷◌, [], IsTrue, rules, inr, ap, subst, sym, ◌∙◌}
+use Rattle.glacier_base.specs.Outside.{one_more}
+use Rattle.glacier_server.specs.declared.end.ServeFault.{ServeFault}
+use Rattle.glacier_server.specs.Serving.{Broken}
+use Rattle.glacier_cli.specs.Program.{ServeEnds}
+use Rattle.glacier_cli.specs.StationUse.{ListensAt, station_use}
+use Rattle.glacier_cli.specs.declared.serve.TheConstants.{CONNECTIONS}
+use Rattle.glacier_cli.proofs.ListenLemmas.{none_came, broken_at, serves_at}
 use Rattle.glacier_cli.proofs.serve.serve_at.Goals.{in-Ok, in-Err-Memory, in-Err-Accept}
 use Rattle.glacier_cli.proofs.serve.serve_at.Goals as goal
 
-pub returns-then-is_err-clause-ends : goal.returns-then-is_err-clause-ends
-returns-then-is_err-clause-ends g c =
-    let station = g.S.Station in
-    let disk = g.S.Disk in
-    let old = c.args.station.now in
-    let new = c.listen.new.self in
-    let v = visit disk.tells station.connections station.readings station.to_come station.addresses disk.folders station.accept_faults old new in (
+pub returns-then-is_err : goal.returns-then-is_err
+returns-then-is_err g c =
+    let old = g.S.Disk.told c.args.station.now in
+    let new = g.S.Disk.told c.listen.new.self in
+    let call = c.listen.ensures.call in (
       search rules,
       λ t.
-          let named : (station.addresses new ≡ station.addresses old) ⊎ (station.addresses new ≡ station.addresses old ++ c.args.address.now ∷ []) = search rules in
-          ((named, c.listen.ensures.disk.2), none_came v c.listen.ensures.told.1 c.listen.ensures.told.2),
+          let named : (new.listener.addresses ≡ old.listener.addresses)
+          ⊎ (new.listener.addresses ≡ old.listener.addresses ++ c.args.address.now ∷ []) = search rules in
+          ((named, call.disk.folders), none_came call),
     )
 
-pub returns-clause-ends : goal.returns-clause-ends
-returns-clause-ends g c =
-    let station = g.S.Station in
-    let disk = g.S.Disk in
-    let old = c.args.station.now in
-    let mid = c.listen.new.self in
-    let new = c.serve.new.station in
-    let v = visit disk.tells station.connections station.readings station.to_come station.addresses disk.folders station.accept_faults old new in
-    let told = c.listen.ensures.told in
-    let named : IsTrue disk.tells → station.addresses mid ≡ station.addresses old ++ c.args.address.now ∷ [] = λ t. search rules in
-    let folders : disk.folders new ≡ disk.folders old = c.serve.ensures.names.1 ∙ c.listen.ensures.disk.2 in
-    let addresses : IsTrue disk.tells → station.addresses new ≡ station.addresses old ++ c.args.address.now ∷ [] = λ t. c.serve.ensures.names.0 ∙ named t in
+pub returns : goal.returns
+returns g c =
+    let old = g.S.Disk.told c.args.station.now in
+    let mid = g.S.Disk.told c.listen.new.self in
+    let new = g.S.Disk.told c.serve.new.station in
+    let station = station_use g.S.Disk.tells old new in
+    let call = c.listen.ensures.call in
+    let kept = c.serve.ensures.kept in
+    let named : IsTrue g.S.Disk.tells → mid.listener.addresses ≡ old.listener.addresses ++ c.args.address.now ∷ [] =
+    λ t. search rules in
+    let listens : IsTrue g.S.Disk.tells → ListensAt station c.args.address.now =
+    λ t. (kept.addresses ∙ named t, kept.folders ∙ call.disk.folders) in
+    let BrokenBy : ServeFault → Type 0 = Broken c.default_config.result mid new c.empty-store.result CONNECTIONS in
+    let faults : mid.listener.faults ≡ old.listener.faults = search rules in
     elim c.match-serve.branch [
-      | in-Ok w ↦ subst (ServeEnds v c.args.address.now) (sym w.result-is) (
+      | in-Ok w ↦ subst (ServeEnds station c.args.address.now) (sym w.result-is) (
         w.in-Ok.ensures.most,
-        λ t. serves_at v _ _ c.default_config.ensures c.empty-store.ensures mid new c.args.address.now _ w.in-Ok.count told.1 told.2 told.0 refl refl refl (addresses t, folders) (w.in-Ok.ensures.fewer t) (w.in-Ok.ensures.served t),
+        w.in-Ok.ensures.accepts ∙ faults,
+        λ t. record {
+          listens = listens t;
+          state = _;
+          serves = serves_at call c.default_config.ensures c.empty-store.ensures (w.in-Ok.ensures.served t);
+          fewer = w.in-Ok.ensures.fewer t;
+        },
       )
-      | in-Err-Memory w ↦ subst (ServeEnds v c.args.address.now) (sym w.result-is) (λ t. (
-        (addresses t, folders),
-        subst (BreaksAt v) w.in-Err-Memory.field-0-is (breaks_at v _ _ c.default_config.ensures c.empty-store.ensures mid new _ told.1 told.2 refl refl (w.in-Err-Memory.ensures.broken t)),
-      ))
-      | in-Err-Accept w ↦ subst (ServeEnds v c.args.address.now) (sym w.result-is) (
-        omega (arith, c.listen.ensures.cause.later, w.in-Err-Accept.ensures.accept w.in-Err-Accept.field-0-is),
-        λ t. ((inr (addresses t), folders), subst (BreaksAt v) w.in-Err-Accept.field-0-is (breaks_at v _ _ c.default_config.ensures c.empty-store.ensures mid new _ told.1 told.2 refl refl (w.in-Err-Accept.ensures.broken t))),
+      | in-Err-Memory w ↦ subst (ServeEnds station c.args.address.now) (sym w.result-is) (
+        (rw w.in-Err-Memory.field-0-is at w.in-Err-Memory.ensures.accepts) ∙ faults,
+        λ t. (
+          listens t,
+          broken_at call c.default_config.ensures c.empty-store.ensures
+              (subst BrokenBy w.in-Err-Memory.field-0-is (w.in-Err-Memory.ensures.broken t)),
+        ),
+      )
+      | in-Err-Accept w ↦ subst (ServeEnds station c.args.address.now) (sym w.result-is) (
+        (rw w.in-Err-Accept.field-0-is at w.in-Err-Accept.ensures.accepts) ∙ ap one_more faults,
+        λ t. (
+          (inr (listens t).0, (listens t).1),
+          broken_at call c.default_config.ensures c.empty-store.ensures
+              (subst BrokenBy w.in-Err-Accept.field-0-is (w.in-Err-Accept.ensures.broken t)),
+        ),
       )
     ]

@@ -1,6 +1,6 @@
 use Rattle.std.proofs.Common.{◌≤◌, IsTrue}
 use Rattle.glacier_server.specs.Transfer.{TakesOf, nothing, Keeps}
-use Rattle.glacier_server.proofs.body.take_rest.Given as goal
+use Rattle.glacier_server.proofs.body.drop_rest.Given as goal
 
 abbrev pub invariant-loop-left : goal.invariant-loop-left
 invariant-loop-left g l = record {
