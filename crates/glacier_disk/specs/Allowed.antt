@@ -13,7 +13,8 @@ pub record ReadSince (first : Image) (calls : List Call) (image : Image) : Type 
   pub no_sync : NoSync (drop moment calls)
   pub is : image ≡ after_calls (take moment calls) first
 
--- each length lies between the shortest and the longest that were read, and each place that was not written holds what is stable
+-- each length lies between the shortest and the longest that were read, and each place that was not written holds
+-- what is stable
 pub record Allowed (read : Image → Type 0) (stable : Image) (written : Area → ℕ → Type 0) (image : Image) : Type 0 where
   pub no_shorter : (area : Area) → (other : Image) × read other × (length (other area) ≤ length (image area))
   pub no_longer : (area : Area) → (other : Image) × read other × (length (image area) ≤ length (other area))

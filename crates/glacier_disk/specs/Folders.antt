@@ -1,6 +1,5 @@
 -- The contents of the files of a folder.
 use Rattle.std.specs.Prelude.{List, ℕ}
-use Rattle.glacier_disk.specs.declared.area.Area.{Area}
 use Rattle.glacier_disk.specs.declared.area.Area.TheVariants.{Lead, Left, Right, Blobs}
 use Rattle.glacier_disk.specs.declared.folder.Folder.{Folder}
 use Rattle.glacier_disk.specs.declared.raw_file.RawFile.{Ghosts}

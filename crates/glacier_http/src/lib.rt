@@ -27,7 +27,7 @@ pub use expectation::interim;
 pub use head::{Find, Head};
 pub use head_reader::read_head;
 pub use head_spans::{HeadSpans, HeadStep};
-pub use limits::{MOST_FIELDS, MOST_HEAD, MOST_LINES, MOST_MESSAGES};
+pub use limits::{MOST_FIELDS, MOST_HEAD, MOST_LINES, MOST_MESSAGES, MOST_PLAIN_HEAD};
 pub use numbers::number;
 pub use printing::{write_head, write_reply};
 pub use query::{Pair, query_pairs};

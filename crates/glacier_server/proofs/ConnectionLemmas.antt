@@ -10,10 +10,10 @@ use Rattle.glacier_server.specs.Machine.{State}
 use Rattle.glacier_server.specs.Served.{ServedLast, PartLast, IsPrompt, Stops}
 use Rattle.glacier_server.specs.Session.{Session, taking, HeldWaiting}
 use Rattle.glacier_server.specs.Transfer.{Transfer, nothing, current}
-use Rattle.glacier_server.proofs.RunLemmas.{SoFar, goes_on, stops, breaks, served, part_none}
+use Rattle.glacier_server.proofs.RunLemmas.{SoFar, goes_on, stops, breaks, breaks_none, served, part_none, nothing_none}
 use Rattle.glacier_server.proofs.RunLemmas as run
 use Rattle.glacier_server.proofs.SessionLemmas.{joined, held_then}
-use Rattle.glacier_server.proofs.TransferLemmas.{stays, then, moved, breaks_off}
+use Rattle.glacier_server.proofs.TransferLemmas.{stays, then, moved}
 
 -- as many messages were answered on the last connection as it stands behind
 pub record SoFarLast (config : Config) (old new : Told) (state : State) (at : Standing) : Type 0 where
@@ -40,8 +40,9 @@ module _ {config : Config} {a : Told} {state : State} where
   never_began = record {
     session = taking state [] [];
     starts = refl;
-    transfer = breaks_off (taking state [] []) (stays a state);
+    transfer = stays a state;
     part = part_none config state;
+    nothing = nothing_none config state;
     prompt = All-nil _;
   }
 
@@ -98,5 +99,6 @@ module _ {config : Config} {a : Told} {state : State} where
           starts = x.starts;
           transfer = moves;
           part = breaks config x.session y.session from x.so_far y.starts [] [] y.part moves.does.after_is;
+          nothing = breaks_none config x.session y.session from x.so_far y.starts [] [] y.part moves.does.after_is y.nothing;
           prompt = prompt_then y.session y.starts y.idle;
         }

@@ -125,5 +125,6 @@ module _ {n : ℕ} {a b : Told} {unread now : List ℕ} {state : State}
     transfer = then (taking state found.got found.takes.waits) x.session x.starts
         (found.takes.transfer state) x.transfer;
     part = subst (λ (y : Exchange). AnswersPart config y) (regroup [] [] x.session x.starts) x.part;
+    nothing = x.nothing;
     idle = idles_behind x.session x.starts x.idle;
   }

@@ -3,7 +3,7 @@ use Rattle.std.proofs.Common.{◌≡◌, true, false, refl, ap, ◌∙◌, arith
 use Rattle.glacier_base.specs.Outside.{one_more}
 use Rattle.glacier_disk.specs.Told.{Told}
 use Rattle.glacier_server.specs.Serving.{ServesOn}
-use Rattle.glacier_server.specs.Transfer.{Failing, nothing, receiving, sending, breaking, Counts, Keeps}
+use Rattle.glacier_server.specs.Transfer.{Failing, nothing, receiving, sending, Counts, Keeps}
 
 -- by calls on a connection
 pub keeps_self : (s : Told) → s.connected ≡ true → Keeps s s nothing
@@ -20,7 +20,6 @@ counts_then : (failing : Failing) (a b c : Told) → Counts nothing a b → Coun
 counts_then nothing a b c first second = (second.0 ∙ first.0, second.1 ∙ first.1)
 counts_then receiving a b c first second = (second.0 ∙ ap one_more first.0, second.1 ∙ first.1)
 counts_then sending a b c first second = (second.0 ∙ first.0, second.1 ∙ ap one_more first.1)
-counts_then breaking a b c first second = (second.0 ∙ first.0, second.1 ∙ first.1)
 
 pub keeps_then : {failing : Failing} {a b c : Told} → Keeps a b nothing → Keeps b c failing → Keeps a c failing
 keeps_then {failing = failing} {a = a} {b = b} {c = c} first second = record {

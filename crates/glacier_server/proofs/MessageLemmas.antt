@@ -28,7 +28,7 @@ use Rattle.glacier_server.proofs.EndLemmas.{answering}
 use Rattle.glacier_server.proofs.ExtentLemmas.{Extends}
 use Rattle.glacier_server.proofs.RefuseLemmas.{text_is}
 use Rattle.glacier_server.proofs.SessionLemmas.{all_more, same_wait}
-use Rattle.glacier_server.proofs.TransferLemmas.{then, acts_then, says, fails_as, breaks_off}
+use Rattle.glacier_server.proofs.TransferLemmas.{then, acts_then, says, fails_as}
 
 -- a good head, for which a reading was taken, and then bytes of its body
 module _ (config : Config) (from : Standing) (headers : List HeaderSpan) (spans : HeadSpans) (used left : ℕ)
@@ -120,8 +120,9 @@ module _ (config : Config) (from : Standing) (headers : List HeaderSpan) (spans 
           let end = end_of_good from.count spans.close in record {
             session = answering from.state from.state takes.got [] r takes.takes.waits;
             starts = refl;
-            transfer = breaks_off (answering from.state from.state takes.got [] r takes.takes.waits) (took takes);
+            transfer = took takes;
             part = answered_part config from headers spans used left r is extends takes.got end 0 whole refl [] [] from.state takes.takes.waits;
+            nothing = refl;
             idle = idle takes from.state [];
           }
 

@@ -17,7 +17,7 @@ use Rattle.glacier_server.specs.Served.{failing_of}
 use Rattle.glacier_server.specs.Session.{reading, acting}
 use Rattle.glacier_server.specs.Transfer.{Transfer, SentAll, SentPart, nothing, current}
 use Rattle.glacier_server.proofs.EndLemmas.{answering, bad_answered, bad_part}
-use Rattle.glacier_server.proofs.TransferLemmas.{acts_then, says, fails_as, breaks_off}
+use Rattle.glacier_server.proofs.TransferLemmas.{acts_then, says, fails_as}
 
 -- the text of a message's reply, by what the machine answers
 pub text_is : (config : Config) (state : State) (m : Message) (r : ℕ) (close : Bool) (answer : Reply)
@@ -38,8 +38,9 @@ module _ (config : Config) {r : ℕ} {cause : BadHead} {a b : Told} (read : (sta
   refused_unmade = record {
     session = reading from.state r;
     starts = refl;
-    transfer = breaks_off (reading from.state r) (read from.state);
+    transfer = read from.state;
     part = bad_part config from r cause stands.1 stands.2 [] [] 0;
+    nothing = refl;
     idle = All-nil _;
   }
 

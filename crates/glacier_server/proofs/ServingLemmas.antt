@@ -14,7 +14,7 @@ use Rattle.glacier_server.specs.Machine.{State}
 use Rattle.glacier_server.specs.Served.{ServedLast, PartLast, IsPrompt}
 use Rattle.glacier_server.specs.Serving.{IsSessionOf, begun, ServedAll, acts_of, readings_of, Comes, Serves, BreaksLast, ServedTill, Breaks, JustAccepted}
 use Rattle.glacier_server.specs.Session.{Session}
-use Rattle.glacier_server.specs.Transfer.{Does, Transfer, Failing, nothing, receiving, sending, breaking, Fails, current, others}
+use Rattle.glacier_server.specs.Transfer.{Does, Transfer, Failing, nothing, receiving, sending, Fails, current, others}
 use Rattle.glacier_server.proofs.ActLemmas.{does_then, does_says, does_quiet, does_accept}
 use Rattle.glacier_server.proofs.StepLemmas.{current-snoc, others-snoc}
 
@@ -114,6 +114,7 @@ last_after config cs ds ss ts state mid served x = record {
   served = served-append config cs x.first ss x.before state mid x.here.before served x.served;
   all = x.all;
   part = x.part;
+  nothing = x.nothing;
   prompt = x.prompt;
 }
 
@@ -180,7 +181,6 @@ module _ (old start done new : Told) {state : State} (opens : JustAccepted old s
         fails_of nothing input d is = is
         fails_of receiving input d is = is
         fails_of sending input d is = is
-        fails_of breaking input d is = is
 
     comes : Comes old new state after (c ∷ []) (s ∷ [])
     unfolding c
@@ -239,6 +239,7 @@ module _ (old start done new : Told) {state : State} (opens : JustAccepted old s
       served = x.starts;
       all = all_of x.session x.session.after x.starts refl x.transfer;
       part = x.part;
+      nothing = x.nothing;
       prompt = subst (λ (w : Wait). IsPrompt config w x.session) begins x.prompt;
     };
   }

@@ -11,7 +11,7 @@ use Rattle.glacier_disk.specs.Told.{Told}
 use Rattle.glacier_server.specs.Acts.{Act, sends, bytes_of}
 use Rattle.glacier_server.specs.Machine.{State}
 use Rattle.glacier_server.specs.Session.{Session, taking, acting, wait_after}
-use Rattle.glacier_server.specs.Transfer.{Does, Transfer, TakenAt, Takes, TakesBehind, TakesOf, SentAll, SentPart, Failing, nothing, receiving, sending, breaking, Fails, current}
+use Rattle.glacier_server.specs.Transfer.{Does, Transfer, TakenAt, Takes, TakesBehind, TakesOf, SentAll, SentPart, Failing, nothing, receiving, sending, Fails, current}
 use Rattle.glacier_server.proofs.ActLemmas.{bytes_of-append, sends-append, does_nothing, does_then}
 use Rattle.glacier_server.proofs.SessionLemmas.{joined, all_more, same_wait}
 
@@ -33,7 +33,6 @@ fails_then : (failing : Failing) (a b c : Connection) → Fails nothing a b → 
 fails_then nothing a b c first second = (second.0 ∙ first.0, second.1 ∙ first.1)
 fails_then receiving a b c first second = (second.0 ∙ ap one_more first.0, second.1 ∙ first.1)
 fails_then sending a b c first second = (second.0 ∙ first.0, second.1 ∙ ap one_more first.1)
-fails_then breaking a b c first second = (second.0 ∙ first.0, second.1 ∙ first.1)
 
 -- one stretch after another
 pub then : {a b c : Told} {failing : Failing} (s t : Session) → t.before ≡ s.after → Transfer a b s nothing
@@ -80,10 +79,6 @@ leads {a = a} {b = b} {failing = failing} s after same x = subst (λ (k : State)
 pub fails_as : {a b : Told} (s : Session) (failing other : Failing) → failing ≡ other → Transfer a b s failing
     → Transfer a b s other
 fails_as {a = a} {b = b} s failing other same x = subst (λ (f : Failing). Transfer a b s f) same x
-
--- the server breaks off where nothing failed
-pub breaks_off : {a b : Told} (s : Session) → Transfer a b s nothing → Transfer a b s breaking
-breaks_off s x = record { took = x.took; coming = x.coming; sent_now = x.sent_now; waited = x.waited; read = x.read; rest = x.rest; fails = x.fails; does = x.does }
 
 -- the point behind a session
 pub moved : {a b : Told} {failing : Failing} (s : Session) → Transfer a b s failing

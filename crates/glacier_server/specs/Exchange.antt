@@ -15,7 +15,7 @@ use Rattle.glacier_server.specs.Machine.{State, after}
 use Rattle.glacier_server.specs.Out.{told, Tells}
 use Rattle.glacier_server.specs.Served.{failing_of}
 use Rattle.glacier_server.specs.Session.{Session, HeldWaiting}
-use Rattle.glacier_server.specs.Transfer.{Transfer, Failing, nothing, breaking, current}
+use Rattle.glacier_server.specs.Transfer.{Transfer, Failing, nothing, current}
 
 -- the end that is answered for the end of an input
 abbrev pub end_for : InputEnd → End
@@ -140,11 +140,12 @@ pub record Exchanges (config : Config) (from to : Standing) (old new : Told) (en
   pub idle : HeldWaiting (wait_of (current old.connections)) session
       (λ till. Idles (exchange_on from [] [] till))
 
--- they did a first part of what is done for the message that stands there
+-- they took the message that stands there, and did nothing for it
 pub record BreaksOff (config : Config) (from : Standing) (old new : Told) : Type 0 where
   pub session : Session
   pub starts : session.before ≡ from.state
-  pub transfer : Transfer old new session breaking
+  pub transfer : Transfer old new session nothing
   pub part : AnswersPart config (exchange_on from [] [] session)
+  pub nothing : session.acts ≡ []
   pub idle : HeldWaiting (wait_of (current old.connections)) session
       (λ till. Idles (exchange_on from [] [] till))

@@ -12,7 +12,7 @@ use Rattle.glacier_server.specs.Acts.{Act, after_acts}
 use Rattle.glacier_server.specs.Machine.{State}
 use Rattle.glacier_server.specs.Out.{run, out, Tells}
 use Rattle.glacier_server.specs.Session.{Session, HeldWaiting}
-use Rattle.glacier_server.specs.Transfer.{Transfer, Failing, nothing, receiving, sending, breaking, current}
+use Rattle.glacier_server.specs.Transfer.{Transfer, Failing, nothing, receiving, sending, current}
 
 -- the messages heard in the bytes were run at these readings, and all that is told was done
 pub record Runs (config : Config) (s : Session) (last : Option InputEnd) : Type 0 where
@@ -83,6 +83,11 @@ pub record AnsweredPart (config : Config) (s : Session) : Type 0 where
 abbrev pub Part : Config → Session → Type 0
 Part config s = IsPartOfOut config s × AnsweredPart config s
 
+-- nothing was done for the last of these messages, if there is one
+abbrev pub NothingForLast : (config : Config) (s : Session) → AnsweredPart config s → Type 0
+NothingForLast config s part = (front : List Message) (m : Message) → part.messages ≡ front ++ m ∷ []
+    → s.acts ≡ out config 0 s.before front s.readings
+
 -- how a connection that ended so was served, where these bytes were still to come
 abbrev pub Served : Config → Session → List ℕ → End → Type 0
 Served config s coming Closed = EndsLast config s closed ⊎ EndsInput config s coming closed
@@ -120,10 +125,12 @@ pub record ServedLast (config : Config) (old new : Told) (state after : State) (
   pub served : Served config session (current new.connections).coming end
   pub prompt : IsPrompt config (wait_of (current old.connections)) session
 
--- a first part of what is to be done was done on the last connection
+-- memory was wanting: on the last connection all was done for the messages before the last, and nothing
+-- for that
 pub record PartLast (config : Config) (old new : Told) (state : State) : Type 0 where
   pub session : Session
   pub starts : session.before ≡ state
-  pub transfer : Transfer old new session breaking
+  pub transfer : Transfer old new session nothing
   pub part : Part config session
+  pub nothing : NothingForLast config session part.1
   pub prompt : IsPrompt config (wait_of (current old.connections)) session

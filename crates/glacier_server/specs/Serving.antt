@@ -9,7 +9,7 @@ use Rattle.glacier_server.specs.declared.end.ServeFault.{ServeFault}
 use Rattle.glacier_server.specs.declared.end.ServeFault.TheVariants.{Memory, Accept}
 use Rattle.glacier_server.specs.Acts.{Act, accept, bytes_of}
 use Rattle.glacier_server.specs.Machine.{State}
-use Rattle.glacier_server.specs.Served.{Served, Part, IsPrompt, failing_of}
+use Rattle.glacier_server.specs.Served.{Served, Part, NothingForLast, IsPrompt, failing_of}
 use Rattle.glacier_server.specs.Session.{Session}
 use Rattle.glacier_server.specs.Transfer.{Does, Fails}
 
@@ -64,7 +64,8 @@ pub record Serves (config : Config) (old new : Told) (state after : State) (coun
   pub fewer : old.listener.to_come ≡ count + new.listener.to_come
   pub each : ServedAll config came sessions state after
 
--- those before the last were served, and a first part of what is to be done was done on it
+-- those before the last were served; on it all was done for the messages before the last, and nothing
+-- for that
 pub record BreaksLast (config : Config) (came : List Connection) (sessions : List Session) (state : State)
     : Type 0 where
   pub first : List Connection
@@ -76,6 +77,7 @@ pub record BreaksLast (config : Config) (came : List Connection) (sessions : Lis
   pub served : ServedAll config first before state here.before
   pub all : IsSessionOf last here
   pub part : Part config here
+  pub nothing : NothingForLast config here part.1
   pub prompt : IsPrompt config begun here
 
 -- what was served before the fault

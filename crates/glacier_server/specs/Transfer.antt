@@ -24,12 +24,11 @@ others (c ∷ d ∷ cs) = c ∷ others (d ∷ cs)
 abbrev pub NoneComing : Told → Type 0
 NoneComing now = (current now.connections).coming ≡ []
 
--- what failed last, after which no other call was made: a receive, a send, or what breaks the server off
+-- what failed last, after which no other call was made: nothing, a receive, or a send
 pub data Failing : Type 0 where
   nothing : Failing
   receiving : Failing
   sending : Failing
-  breaking : Failing
 
 -- the failing of a receive, and of a send
 abbrev pub receiving_if : {T E : Type 0} → Result T E → Failing
@@ -53,8 +52,6 @@ Fails receiving old new =
     (new.receives_failed ≡ one_more old.receives_failed) × (new.sends_failed ≡ old.sends_failed)
 Fails sending old new =
     (new.receives_failed ≡ old.receives_failed) × (new.sends_failed ≡ one_more old.sends_failed)
-Fails breaking old new =
-    (new.receives_failed ≡ old.receives_failed) × (new.sends_failed ≡ old.sends_failed)
 
 -- and so do the counts of the whole, on every form
 abbrev pub Counts : Failing → Told → Told → Type 0
@@ -64,8 +61,6 @@ Counts receiving old new =
     (new.receive_faults ≡ one_more old.receive_faults) × (new.send_faults ≡ old.send_faults)
 Counts sending old new =
     (new.receive_faults ≡ old.receive_faults) × (new.send_faults ≡ one_more old.send_faults)
-Counts breaking old new =
-    (new.receive_faults ≡ old.receive_faults) × (new.send_faults ≡ old.send_faults)
 
 -- what every stretch of calls on a connection keeps, on every form: it is open, the listener and the
 -- disk's names are left alone, and the counts of failed calls show what failed

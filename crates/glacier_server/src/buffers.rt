@@ -1,6 +1,7 @@
 // The room that a connection works in.
 ghost use Rattle.std.specs.Prelude.{◌≡◌, ◌≤◌, [], length, IfOk};
 ghost use Rattle.glacier_machine.specs.declared.content_hash.TheConstants.{MOST_BODY as MOST_KEPT};
+ghost use Rattle.glacier_server.specs.declared.reply_sender.TheConstants.{MOST_AT_ONCE as MOST_PRINTED};
 
 use crate::read_buffer::ReadBuffer;
 use crate::reply_sender::MOST_AT_ONCE;
@@ -21,7 +22,7 @@ pub struct Buffers {
     /// The text of a reply.
     pub reply: Vec<u8>,
     ghost most: { MOST_KEPT ≤ length body.items },
-    ghost room: { length reply.items ≡ 16384 },
+    ghost room: { length reply.items ≡ MOST_PRINTED },
 }
 
 /// Room for a body that is kept.
