@@ -14,13 +14,21 @@ mod http_reply_tests;
 #[cfg(test)]
 mod http_tests;
 #[cfg(test)]
-mod machine_tests;
-#[cfg(test)]
 mod map_tests;
 #[cfg(test)]
 mod outside_tests;
 #[cfg(test)]
 mod plans;
+#[cfg(test)]
+mod server_tests;
+#[cfg(test)]
+mod signed_replies;
+#[cfg(test)]
+mod signed_requests;
+#[cfg(test)]
+mod signed_tests;
+#[cfg(test)]
+mod sigv4_tests;
 #[cfg(test)]
 mod stop_tests;
 #[cfg(test)]

@@ -1,0 +1,178 @@
+// Connections of a station in memory: what is sent on each, to the byte, and how it ends.
+ghost use Rattle.std.specs.Prelude.{◌≡◌, true, false};
+
+use crate::plans::{Plan, mem_plan};
+use glacier_base::Region;
+use glacier_disk::{MemStation, Station};
+use glacier_machine::Config;
+use glacier_server::{End, Store, serve, serve_connection};
+use glacier_sigv4::KeyRing;
+use std::alloc::Global;
+
+/// Two accounts.
+const KEYS: &[u8] =
+    b"111122223333 AKIDEXAMPLE wJalrXUtnFEMI/K7MDENG+bPxRfiCYEXAMPLEKEY 64\n444455556666 AKIDOTHER another/secret 64\n";
+
+fn config(alloc: Global) -> Option<Config> {
+    let region = Region::parse(b"us-east-1")?;
+    let ring = KeyRing::read(alloc, KEYS).ok()?;
+    Some(Config {
+        region,
+        ring,
+        delays: [300, 14_400, 28_800],
+    })
+}
+
+/// One input and an empty one, in these pieces and with these failures, where the clock stands at
+/// Friday, 25 May 2012, 00:24:53 UTC.
+fn plan<'a>(inputs: &'a [&'a [u8]], pieces: &'a [usize], faults: &'a [u64]) -> Plan<'a> {
+    Plan {
+        left: "",
+        inputs,
+        pieces,
+        seconds: &[1_337_905_493],
+        faults,
+    }
+}
+
+fn connection_end<S: Station>(alloc: Global, station: &mut S) -> Option<End>
+    requires { (S.told station.old).connected ≡ true }
+{
+    match config(alloc) {
+        Some(config) => match serve_connection(alloc, station, Store::empty(alloc), &config) {
+            Ok((end, _)) => Some(end),
+            Err(_) => None,
+        },
+        None => None,
+    }
+}
+
+fn accepted_end<S: Station>(alloc: Global, station: &mut S) -> Option<End>
+    requires listening { (S.told station.old).listener.listening ≡ true }
+    requires free { (S.told station.old).connected ≡ false }
+{
+    match station.accept() {
+        Ok(true) => connection_end(alloc, station),
+        Ok(false) => None,
+        Err(_) => None,
+    }
+}
+
+/// How the first connection ends.
+fn first_end<S: Station>(alloc: Global, station: &mut S) -> Option<End>
+    requires listening { (S.told station.old).listener.listening ≡ false }
+    requires free { (S.told station.old).connected ≡ false }
+{
+    match station.listen("here") {
+        Ok(()) => accepted_end(alloc, station),
+        Err(_) => None,
+    }
+}
+
+fn serve_some<S: Station>(alloc: Global, station: &mut S) -> Option<u64>
+    requires listening { (S.told station.old).listener.listening ≡ true }
+    requires free { (S.told station.old).connected ≡ false }
+{
+    match config(alloc) {
+        Some(config) => match serve(alloc, station, Store::empty(alloc), &config, 9) {
+            Ok((count, _)) => Some(count),
+            Err(_) => None,
+        },
+        None => None,
+    }
+}
+
+/// How many connections are served, where none of the station's accepts fails.
+fn served<S: Station>(alloc: Global, station: &mut S) -> Option<u64>
+    requires listening { (S.told station.old).listener.listening ≡ false }
+    requires free { (S.told station.old).connected ≡ false }
+{
+    match station.listen("here") {
+        Ok(()) => serve_some(alloc, station),
+        Err(_) => None,
+    }
+}
+
+/// How the first connection ends, and whether these bytes were sent.
+pub fn held(alloc: Global, plan: &Plan, output: &[u8]) -> Option<(Option<End>, bool)> {
+    let mut station = MemStation::new(alloc, mem_plan(alloc, plan)?).ok()?;
+    let end = first_end(alloc, &mut station);
+    Some((end, station.sent() == output))
+}
+
+/// How many connections are served.
+fn served_by(alloc: Global, plan: &Plan) -> Option<Option<u64>> {
+    let mut station = MemStation::new(alloc, mem_plan(alloc, plan)?).ok()?;
+    Some(served(alloc, &mut station))
+}
+
+/// Whether an input in pieces of at most so many bytes ends so.
+fn is_ended(alloc: Global, input: &str, piece: usize, end: End) -> bool {
+    let inputs = [input.as_bytes(), b"".as_slice()];
+    let pieces = [piece; 400];
+    match held(alloc, &plan(&inputs, &pieces, &[]), b"") {
+        Some((ended, _)) => ended == Some(end),
+        None => false,
+    }
+}
+
+/// Inputs, and how each ends.
+const ENDS: [(&str, End); 7] = [
+    ("", End::Closed),
+    ("GET /a HTTP/1.1\r\n\r\n", End::Closed),
+    ("GET /a HTTP/1.1\r\n", End::Cut { taken: 17 }),
+    (
+        "GET /a HTTP/1.1\r\n\r\nPUT /b HTTP/1.1\r\nContent-Length: 10\r\n\r\n1234",
+        End::Cut { taken: 43 },
+    ),
+    (
+        "GET /a HTTP/1.1\r\nConnection: close\r\n\r\nGET",
+        End::Closed,
+    ),
+    ("GET /a HTTP/1.1\r\n\r\n\0GET", End::Refused),
+    (
+        "PUT /a HTTP/1.1\r\nContent-Length: 2\r\n\r\n12GET *",
+        End::Cut { taken: 5 },
+    ),
+];
+
+#[test]
+fn ends(rt: HostRuntime) {
+    for (input, end) in ENDS {
+        for piece in [1, 7, 400] {
+            assert!(rt;
+                is_ended(rt.alloc(), input, piece, end),
+                "{piece} of {input}"
+            );
+        }
+    }
+}
+
+/// The call that fails, how the first connection ends and how many connections are served. The
+/// calls are listen, accept, receive, send, receive.
+const FAULTS: [(u64, Option<End>, Option<u64>); 6] = [
+    (0, None, None),
+    (1, None, None),
+    (2, Some(End::ReadFault), Some(2)),
+    (3, Some(End::SendFault), Some(2)),
+    (4, Some(End::ReadFault), Some(2)),
+    (99, Some(End::Closed), Some(2)),
+];
+
+/// Whether a request whose call with this number fails ends so, and so many are served.
+fn is_fault_kept(alloc: Global, fault: u64, end: Option<End>, count: Option<u64>) -> bool {
+    let inputs = [b"GET /a HTTP/1.1\r\n\r\n".as_slice(), b"".as_slice()];
+    let faults = [fault];
+    let plan = plan(&inputs, &[], &faults);
+    match held(alloc, &plan, b"") {
+        Some((ended, _)) => ended == end && served_by(alloc, &plan) == Some(count),
+        None => false,
+    }
+}
+
+#[test]
+fn faults_end_one_connection(rt: HostRuntime) {
+    for (fault, end, count) in FAULTS {
+        assert!(rt; is_fault_kept(rt.alloc(), fault, end, count), "{fault}");
+    }
+}

@@ -1,0 +1,261 @@
+// Signed requests on a connection of a station in memory: what is sent, to the byte, and how it
+// ends.
+use crate::plans::Plan;
+use crate::server_tests::held;
+use crate::signed_replies::*;
+use crate::signed_requests::*;
+use glacier_base::Text;
+use glacier_server::End;
+use std::alloc::Global;
+
+/// Friday, 25 May 2012, 00:24:53 UTC.
+const READING: u64 = 1_337_905_493;
+
+/// What is told, the readings of the clock, requests and the replies to them.
+type Dialogue = (
+    &'static str,
+    &'static [u64],
+    &'static [&'static str],
+    &'static [&'static str],
+);
+
+const ON_TIME: &[u64] = &[READING];
+
+const DIALOGUES: [Dialogue; 8] = [
+    (
+        "the same twice makes one vault",
+        ON_TIME,
+        &[PUT, PUT, GET],
+        &[MADE, MADE, DESCRIBED],
+    ),
+    ("900 s off", &[READING + 900], &[PUT], &[MADE_LATER]),
+    (
+        "901 s off",
+        &[READING + 901, READING],
+        &[PUT, GET],
+        &[SKEWED, NO_VAULT],
+    ),
+    (
+        "another account's vaults, and its own",
+        ON_TIME,
+        &[PUT, GET_OF_FIRST_BY_OTHER, GET_BY_OTHER],
+        &[MADE, OTHER_ACCOUNT, NO_VAULT],
+    ),
+    (
+        "what isn't verified changes nothing",
+        ON_TIME,
+        &[
+            PUT_WITHOUT_AUTHORIZATION,
+            PUT_OF_UPPER_CASE,
+            PUT_BY_NOBODY,
+            PUT_OF_ANOTHER_DAY,
+            PUT_OF_ANOTHER_REGION,
+            PUT_WITH_A_FIELD_MORE,
+            PUT_OF_ANOTHER_DIGIT,
+            PUT_OF_3_BYTES,
+            "abd",
+            GET,
+        ],
+        &[
+            MISSING,
+            MALFORMED,
+            UNKNOWN_KEY,
+            WRONG_SCOPE,
+            WRONG_SCOPE,
+            UNSIGNED,
+            BAD_SIGNATURE,
+            BAD_SIGNATURE,
+            NO_VAULT,
+        ],
+    ),
+    (
+        "bodies by the digest that is named",
+        ON_TIME,
+        &[PUT_OF_A_WRONG_DIGEST, "abc", PUT_OF_NO_DIGEST, GET_NO_SUCH],
+        &[MISMATCH, BAD_HEADER, NO_SUCH],
+    ),
+    (
+        "bodies that are signed, and named",
+        ON_TIME,
+        &[PUT_OF_3_BYTES, "abc", PUT_OF_A_DIGEST, "abc"],
+        &[MADE, MADE],
+    ),
+    // No route: a method, another path, a path that goes on, a list of vaults, 11 digits, a POST.
+    // Bad names come before the account. Then in order: the account, a token, the version, a header
+    // that is no digest.
+    (
+        "the order of refusals",
+        ON_TIME,
+        &[
+            DELETE_VAULT,
+            PUT_VAULT_ELSEWHERE,
+            PUT_BELOW_VAULT,
+            GET_VAULTS,
+            GET_OF_11_DIGITS,
+            POST_NO_NAME,
+            PUT_NO_NAME,
+            GET_TWO_DOTS,
+            GET_TILDE,
+            PUT_BAD_NAME_OF_OTHER,
+            GET_OF_OTHER_WITH_TOKEN,
+            GET_WITH_TOKEN,
+            GET_WITHOUT_VERSION,
+            GET_OF_TWO_VERSIONS,
+        ],
+        &[
+            NO_ROUTE,
+            NO_ROUTE,
+            NO_ROUTE,
+            NO_ROUTE,
+            NO_ROUTE,
+            NO_ROUTE,
+            BAD_NAME,
+            BAD_NAME,
+            BAD_NAME,
+            BAD_NAME,
+            OTHER_ACCOUNT,
+            TOKEN,
+            WITHOUT_VERSION,
+            OTHER_VERSION,
+        ],
+    ),
+];
+
+/// A text so many times, so many letters `a` behind it, the reply so many times, the last reply and
+/// the end.
+type Long = (u32, &'static str, u32, u32, &'static str, &'static str, End);
+
+const LONG: [Long; 9] = [
+    // Bad heads.
+    (1, "GET /\0", 0, 0, "", BAD_SYNTAX, End::Refused),
+    (
+        1,
+        "GET / HTTP/1.1\r\nContent-Length: x\r\n\r\n",
+        0,
+        0,
+        "",
+        BAD_LENGTH,
+        End::Refused,
+    ),
+    (
+        1,
+        "GET / HTTP/1.1\r\nTransfer-Encoding: x\r\n\r\n",
+        0,
+        0,
+        "",
+        BAD_CODING,
+        End::Refused,
+    ),
+    (
+        1,
+        "GET * HTTP/1.1\r\n\r\n",
+        0,
+        0,
+        "",
+        BAD_PATH,
+        End::Refused,
+    ),
+    // A body of more than 1 MiB has to be named by its digest, and may be no plain message's.
+    (
+        1,
+        PUT_WITHOUT_DIGEST,
+        1_048_577,
+        1,
+        HASH_NEEDED,
+        "",
+        End::Closed,
+    ),
+    (
+        1,
+        PUT_OF_A_LONG_BODY,
+        1_048_577,
+        1,
+        BODY_TOO_LONG,
+        "",
+        End::Closed,
+    ),
+    // A connection has 1000 replies.
+    (1001, GET, 0, 999, NO_VAULT, NO_VAULT_AND_CLOSE, End::Bound),
+    // A head has fewer than 16,384 bytes: so many times four bytes of a method that doesn't end.
+    (4095, "GETS", 0, 0, "", "", End::Cut { taken: 16_380 }),
+    (4096, "GETS", 0, 0, "", TOO_LONG, End::Refused),
+];
+
+fn joined(alloc: Global, texts: &[&str]) -> Option<Text> {
+    let mut whole = Text::new(alloc);
+    for text in texts {
+        whole.extend_from_slice(text.as_bytes()).ok()?;
+    }
+    Some(whole)
+}
+
+/// The text so many times, so many letters and another text.
+fn repeated(alloc: Global, count: u32, text: &str, letters: u32, last: &str) -> Option<Text> {
+    let mut whole = Text::new(alloc);
+    for _ in 0..count {
+        whole.extend_from_slice(text.as_bytes()).ok()?;
+    }
+    for _ in 0..letters {
+        whole.extend_from_slice(b"a").ok()?;
+    }
+    whole.extend_from_slice(last.as_bytes()).ok()?;
+    Some(whole)
+}
+
+/// Whether an input in pieces of at most so many bytes is answered with this output, and ends so.
+fn is_answered(
+    alloc: Global,
+    input: &Text,
+    piece: usize,
+    seconds: &[u64],
+    output: &Text,
+    end: End,
+) -> bool {
+    let plan = Plan {
+        left: "",
+        inputs: &[input.bytes()],
+        pieces: &[piece; 2000],
+        seconds,
+        faults: &[],
+    };
+    held(alloc, &plan, output.bytes()) == Some((Some(end), true))
+}
+
+fn is_held(alloc: Global, dialogue: &Dialogue, piece: usize) -> Option<bool> {
+    let (_, seconds, requests, replies) = *dialogue;
+    let input = joined(alloc, requests)?;
+    let output = joined(alloc, replies)?;
+    Some(is_answered(alloc, &input, piece, seconds, &output, End::Closed))
+}
+
+#[test]
+fn signed_dialogues(rt: HostRuntime) {
+    for row in &DIALOGUES {
+        for piece in [1, 7, 65_536] {
+            assert!(rt;
+                is_held(rt.alloc(), row, piece) == Some(true),
+                "{} by {piece}",
+                row.0
+            );
+        }
+    }
+}
+
+fn is_long_held(alloc: Global, long: &Long) -> Option<bool> {
+    let (count, text, letters, replies, reply, last, end) = *long;
+    let input = repeated(alloc, count, text, letters, "")?;
+    let output = repeated(alloc, replies, reply, 0, last)?;
+    Some(is_answered(alloc, &input, 65_536, &[READING], &output, end))
+}
+
+#[test]
+fn long_dialogues(rt: HostRuntime) {
+    for row in &LONG {
+        assert!(rt;
+            is_long_held(rt.alloc(), row) == Some(true),
+            "{} {}",
+            row.0,
+            row.1
+        );
+    }
+}
