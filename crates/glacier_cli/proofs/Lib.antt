@@ -1,4 +1,5 @@
 pub mod Filled
 pub mod Hashing
+pub mod KeyPrefixLemmas
 pub mod ListenLemmas
 pub mod PartLemmas

@@ -12,12 +12,11 @@ use Rattle.glacier_server.specs.Acts.{sent_by}
 use Rattle.glacier_server.specs.Machine.{State}
 use Rattle.glacier_server.specs.Serving.{Comes, Serves, Breaks, acts_of, readings_of}
 use Rattle.glacier_server.specs.Session.{Session}
-use Rattle.glacier_cli.specs.StationUse.{default_config}
 use Rattle.glacier_cli.specs.declared.serve.TheConstants.{CONNECTIONS}
 
 module _ {T E : Type 0} {old mid : Told} {result : Result T E} (listens : ListenCall old mid result) where
   -- no connection came, since the station doesn't listen
-  pub none_came : Breaks default_config old mid map.empty CONNECTIONS Accept
+  pub none_came : {terms : Config} → Breaks terms old mid map.empty CONNECTIONS Accept
   none_came = record {
     came = [];
     sessions = [];
@@ -44,13 +43,13 @@ module _ {T E : Type 0} {old mid : Told} {result : Result T E} (listens : Listen
     };
   }
 
-  -- a server that is told of no others has the default terms, and begins with no account
-  module _ {new : Told} {config : Config} {store : State} (is_default : config ≡ default_config) (is_empty : store ≡ map.empty) where
+  -- a server with these terms, which begins with no account
+  module _ {new : Told} {config terms : Config} {store : State} (is_given : config ≡ terms) (is_empty : store ≡ map.empty) where
     -- all that came
     pub serves_at : {state : State} {count : ℕ} → Serves config mid new store state count
-        → Serves default_config old new map.empty state count
+        → Serves terms old new map.empty state count
     serves_at {state = state} {count = count} given =
-        let serves = subst (λ (c : Config). Serves c mid new map.empty state count) is_default
+        let serves = subst (λ (c : Config). Serves c mid new map.empty state count) is_given
             (subst (λ (s : State). Serves config mid new s state count) is_empty given) in
         record {
           came = serves.came;
@@ -63,9 +62,9 @@ module _ {T E : Type 0} {old mid : Told} {result : Result T E} (listens : Listen
 
     -- as far as the fault
     pub breaks_at : {fault : ServeFault} → Breaks config mid new store CONNECTIONS fault
-        → Breaks default_config old new map.empty CONNECTIONS fault
+        → Breaks terms old new map.empty CONNECTIONS fault
     breaks_at {fault = fault} given =
-        let breaks = subst (λ (c : Config). Breaks c mid new map.empty CONNECTIONS fault) is_default
+        let breaks = subst (λ (c : Config). Breaks c mid new map.empty CONNECTIONS fault) is_given
             (subst (λ (s : State). Breaks config mid new s CONNECTIONS fault) is_empty given) in
         record {
           came = breaks.came;

@@ -2,7 +2,7 @@ use Rattle.std.proofs.Common.{◌≡◌, ◌⊎◌, ◌++◌, ◌∷◌, [], IsT
 use Rattle.glacier_base.specs.Outside.{one_more}
 use Rattle.glacier_server.specs.declared.end.ServeFault.{ServeFault}
 use Rattle.glacier_server.specs.Serving.{Breaks}
-use Rattle.glacier_cli.specs.Program.{ServeEnds}
+use Rattle.glacier_cli.specs.Program.{ListenEnds}
 use Rattle.glacier_cli.specs.StationUse.{ListensAt, station_use}
 use Rattle.glacier_cli.specs.declared.serve.TheConstants.{CONNECTIONS}
 use Rattle.glacier_cli.proofs.ListenLemmas.{none_came, breaks_at, serves_at}
@@ -36,7 +36,7 @@ returns g c =
     let Broken : ServeFault → Type 0 = Breaks c.default_config.result mid new c.empty-store.result CONNECTIONS in
     let faults : mid.listener.faults ≡ old.listener.faults = search rules in
     elim c.match-serve.branch [
-      | in-Ok w ↦ subst (ServeEnds station c.args.address.now) (sym w.result-is) (
+      | in-Ok w ↦ subst (ListenEnds station c.args.ring c.args.address.now) (sym w.result-is) (
         w.in-Ok.ensures.most,
         w.in-Ok.ensures.accepts ∙ faults,
         λ t. record {
@@ -46,12 +46,12 @@ returns g c =
           fewer = w.in-Ok.ensures.fewer t;
         },
       )
-      | in-Err-Memory w ↦ subst (ServeEnds station c.args.address.now) (sym w.result-is) (
+      | in-Err-Memory w ↦ subst (ListenEnds station c.args.ring c.args.address.now) (sym w.result-is) (
         (rw w.in-Err-Memory.field-0-is at w.in-Err-Memory.ensures.accepts) ∙ faults,
         λ t. (listens t, breaks_at call c.default_config.ensures c.empty-store.ensures
             (subst Broken w.in-Err-Memory.field-0-is (w.in-Err-Memory.ensures.broken t))),
       )
-      | in-Err-Accept w ↦ subst (ServeEnds station c.args.address.now) (sym w.result-is) (
+      | in-Err-Accept w ↦ subst (ListenEnds station c.args.ring c.args.address.now) (sym w.result-is) (
         (rw w.in-Err-Accept.field-0-is at w.in-Err-Accept.ensures.accepts) ∙ ap one_more faults,
         λ t. ((inr (listens t).0, (listens t).1), breaks_at call c.default_config.ensures c.empty-store.ensures
             (subst Broken w.in-Err-Accept.field-0-is (w.in-Err-Accept.ensures.broken t))),
