@@ -1,5 +1,5 @@
 -- What a server does at a station, once it listens at an address.
-use Rattle.std.proofs.Common.{◌≡◌, ◌++◌, ◌∙◌, ℕ, List, [], refl, sym, ap, subst, arith, append-nil}
+use Rattle.std.proofs.Common.{◌≡◌, ◌++◌, ◌∙◌, ℕ, List, [], inl, inr, refl, sym, ap, subst, arith, append-nil}
 use Rattle.std.specs.Prelude.{Result}
 use Rattle.std.specs.FinMap as map
 use Rattle.glacier_disk.specs.Calls.{ListenCall}
@@ -10,14 +10,14 @@ use Rattle.glacier_server.specs.declared.end.ServeFault.{ServeFault}
 use Rattle.glacier_server.specs.declared.end.ServeFault.TheVariants.{Accept}
 use Rattle.glacier_server.specs.Acts.{sent_by}
 use Rattle.glacier_server.specs.Machine.{State}
-use Rattle.glacier_server.specs.Serving.{Comes, Serves, Breaks, acts_of, readings_of}
+use Rattle.glacier_server.specs.Serving.{Comes, Serves, Breaks, Broken, acts_of, readings_of}
 use Rattle.glacier_server.specs.Session.{Session}
 use Rattle.glacier_cli.specs.declared.serve.TheConstants.{CONNECTIONS}
 
 module _ {T E : Type 0} {old mid : Told} {result : Result T E} (listens : ListenCall old mid result) where
   -- no connection came, since the station doesn't listen
-  pub none_came : {terms : Config} → Breaks terms old mid map.empty CONNECTIONS Accept
-  none_came = record {
+  pub none_came : {terms : Config} → Broken terms old mid map.empty CONNECTIONS Accept
+  none_came = inl (record {
     came = [];
     sessions = [];
     after = map.empty;
@@ -28,7 +28,7 @@ module _ {T E : Type 0} {old mid : Told} {result : Result T E} (listens : Listen
     };
     few = omega arith;
     till = refl;
-  }
+  })
 
   -- what came afterwards came from before it on, since listening takes no connection and no reading
   comes_from : {new : Told} {state after : State} {came : List Connection} {sessions : List Session}
@@ -61,16 +61,17 @@ module _ {T E : Type 0} {old mid : Told} {result : Result T E} (listens : Listen
         }
 
     -- as far as the fault
-    pub breaks_at : {fault : ServeFault} → Breaks config mid new store CONNECTIONS fault
-        → Breaks terms old new map.empty CONNECTIONS fault
-    breaks_at {fault = fault} given =
+    pub broken_at : {fault : ServeFault} → Broken config mid new store CONNECTIONS fault
+        → Broken terms old new map.empty CONNECTIONS fault
+    broken_at {fault = fault} (inl given) =
         let breaks = subst (λ (c : Config). Breaks c mid new map.empty CONNECTIONS fault) is_given
             (subst (λ (s : State). Breaks config mid new s CONNECTIONS fault) is_empty given) in
-        record {
+        inl (record {
           came = breaks.came;
           sessions = breaks.sessions;
           after = breaks.after;
           comes = comes_from breaks.comes;
           few = breaks.few;
           till = breaks.till;
-        }
+        })
+    broken_at (inr never) = inr ((never.0, never.1 ∙ listens.connections, never.2 ∙ listens.readings))

@@ -6,7 +6,7 @@ use Rattle.glacier_machine.specs.declared.config.Config.{Config}
 use Rattle.glacier_sigv4.specs.declared.ring.Entry.{Entry}
 use Rattle.glacier_server.specs.declared.end.ServeFault.{ServeFault}
 use Rattle.glacier_server.specs.Machine.{State}
-use Rattle.glacier_server.specs.Serving.{Serves, Breaks}
+use Rattle.glacier_server.specs.Serving.{Serves, Broken}
 use Rattle.glacier_cli.specs.declared.serve.TheConstants.{CONNECTIONS}
 
 -- what a station told before a run and after it, and whether it tells what comes and what is sent
@@ -50,6 +50,7 @@ pub record ServesAt (station : StationUse) (ring : List Entry) (address : List �
   pub serves : Serves (default_config ring) station.before station.after map.empty state count
   pub fewer : count < CONNECTIONS → station.after.listener.to_come ≡ 0
 
--- those that came before the fault, no more than the most, were served so, from the state of no account on
+-- those that came before the fault, no more than the most, were served so, from the state of no account on, or memory was
+-- wanting before the first
 abbrev pub BreaksAt : StationUse → List Entry → ServeFault → Type 0
-BreaksAt station ring fault = Breaks (default_config ring) station.before station.after map.empty CONNECTIONS fault
+BreaksAt station ring fault = Broken (default_config ring) station.before station.after map.empty CONNECTIONS fault

@@ -4,11 +4,15 @@ use Rattle.std.proofs.lemmas.List.{drop-drop, length-take, take-append-drop, tak
 use Rattle.std.proofs.Math.Seq.{take-append-add}
 
 -- the first part of a list, and what follows it
-take_joined : (front back : List ℕ) (n count : ℕ) → length front ≡ n → take (n + count) (front ++ back) ≡ front ++ take count back
+take_joined : (front back : List ℕ) (n count : ℕ) → length front ≡ n
+    → take (n + count) (front ++ back) ≡ front ++ take count back
 take_joined front back n count is = subst (λ (k : ℕ). take (k + count) (front ++ back) ≡ front ++ take count back) is (take-append-add front back count)
 
 -- the first bytes of a content from a place on, and a piece more
-pub piece_more : (content into piece post : List ℕ) (at done count : ℕ) → done ≤ length into → done ≤ length (drop at content) → take done into ≡ take done (drop at content) → count ≤ length piece → take count piece ≡ take count (drop (at + done) content) → take (done + count) (take done into ++ (piece ++ post)) ≡ take (done + count) (drop at content)
+pub piece_more : (content into piece post : List ℕ) (at done count : ℕ) → done ≤ length into
+    → done ≤ length (drop at content) → take done into ≡ take done (drop at content) → count ≤ length piece
+    → take count piece ≡ take count (drop (at + done) content)
+    → take (done + count) (take done into ++ (piece ++ post)) ≡ take (done + count) (drop at content)
 piece_more content into piece post at done count within inside bytes fits next =
     let rest = drop at content in
     let long : length (take done into) ≡ done = omega (arith, length-take done into) in

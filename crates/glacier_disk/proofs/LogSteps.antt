@@ -15,7 +15,8 @@ use Rattle.glacier_disk.specs.Sent.{sent_after, PassesWith}
 use Rattle.glacier_disk.proofs.Steps.{pushed_now, pushed_left, quiet_now, quiet_left}
 use Rattle.glacier_disk.proofs.With.{quiet_still, quiet_sent, disk_sent, quiet_with, quiet_grows}
 
-pub noted_quietly : {T E : Type 0} {plan : List ℕ} {old new : List Call} (result : Result T E) → Noted NoEffect plan old new result → Quietly old new
+pub noted_quietly : {T E : Type 0} {plan : List ℕ} {old new : List Call} (result : Result T E)
+    → Noted NoEffect plan old new result → Quietly old new
 noted_quietly (Ok x) noted = inr noted.ok
 noted_quietly (Err e) noted = noted.err
 
@@ -30,10 +31,12 @@ module _ (t : CallLog) (new : List Call) where
     unwritten_replays now same = quiet_now (image_of t.first) t.calls.items new (image_of t.now) now quiet t.replays same
 
     -- what a crash may leave of a write or a cut that failed
-    pub unwritten_crash : (area : Area) (start end : ℕ) → Follows (TornWrite area start end) (left_after (image_of t.first) t.calls.items) (left_after (image_of t.first) new)
+    pub unwritten_crash : (area : Area) (start end : ℕ)
+        → Follows (TornWrite area start end) (left_after (image_of t.first) t.calls.items) (left_after (image_of t.first) new)
     unwritten_crash area start end = λ i left. (i, quiet_left (image_of t.first) t.calls.items new quiet i left, write_self area start end i)
 
-    pub uncut_crash : (area : Area) (n : ℕ) → Follows (TornCut area n) (left_after (image_of t.first) t.calls.items) (left_after (image_of t.first) new)
+    pub uncut_crash : (area : Area) (n : ℕ)
+        → Follows (TornCut area n) (left_after (image_of t.first) t.calls.items) (left_after (image_of t.first) new)
     uncut_crash area n = λ i left. (i, quiet_left (image_of t.first) t.calls.items new quiet i left, cut_self area n i)
 
     pub quiet_bytes : sent_after new ≡ sent_after t.calls.items
@@ -49,7 +52,9 @@ module _ (t : CallLog) (new : List Call) where
     quiet_rests = quiet_still (image_of t.first) t.calls.items new quiet (image_of t.now) (image_of t.now) refl
 
     -- for whatever follows from the bytes sent before
-    pub quiet_passes : (Sent : List (List ℕ) → Type 0) → ((s : List (List ℕ)) → s ≡ sent_after t.calls.items → Sent s) → PassesWith (image_of t.first) (image_of t.first) t.calls.items new Sent
+    pub quiet_passes : (Sent : List (List ℕ) → Type 0)
+        → ((s : List (List ℕ)) → s ≡ sent_after t.calls.items → Sent s)
+        → PassesWith (image_of t.first) (image_of t.first) t.calls.items new Sent
     quiet_passes Sent sent = quiet_with (image_of t.first) t.calls.items new quiet Sent sent
 
     pub quiet_grown : Grows (image_of t.first) (image_of t.first) t.calls.items new
@@ -67,11 +72,14 @@ module _ (t : CallLog) (new : List Call) where
     disk_whole = t.whole ∙ ap concat (sym disk_bytes)
 
   -- a call more, and what a read gives after it
-  pub pushed_replays : (call : Call) (now : Image) → new ≡ t.calls.items ++ call ∷ [] → now ≡ after_call call (image_of t.now) → now ≡ after_calls new (image_of t.first)
+  pub pushed_replays : (call : Call) (now : Image) → new ≡ t.calls.items ++ call ∷ []
+      → now ≡ after_call call (image_of t.now) → now ≡ after_calls new (image_of t.first)
   pushed_replays call now pushed step = pushed_now (image_of t.first) t.calls.items new call (image_of t.now) now pushed t.replays step
 
   -- what a crash may leave of a write
-  pub write_crash : (area : Area) (place : ℕ) (bytes : List ℕ) → new ≡ t.calls.items ++ Write area place bytes ∷ [] → Follows (TornWrite area (min place (length (image_of t.now area))) (place + length bytes)) (left_after (image_of t.first) t.calls.items) (left_after (image_of t.first) new)
+  pub write_crash : (area : Area) (place : ℕ) (bytes : List ℕ)
+      → new ≡ t.calls.items ++ Write area place bytes ∷ []
+      → Follows (TornWrite area (min place (length (image_of t.now area))) (place + length bytes)) (left_after (image_of t.first) t.calls.items) (left_after (image_of t.first) new)
   write_crash area place bytes pushed = λ i left.
       subst (λ (now : Image). (d : Image) × left_after (image_of t.first) t.calls.items d × TornWrite area (min place (length (now area))) (place + length bytes) d i) (sym t.replays)
       (pushed_left (image_of t.first) t.calls.items new (Write area place bytes) pushed i left)
@@ -81,7 +89,8 @@ pub unwritten_part : (area : Area) (start end : ℕ) (was now : Image) → now �
 unwritten_part area start end was now same = subst (λ (i : Image). TornWrite area start end was i) (sym same) (write_self area start end was)
 
 -- a call that isn't recorded and changes no image
-pub nothing_done : (old new : CallLog) → new.calls ≡ old.calls → new.now ≡ old.now → new.first ≡ old.first → (Sent : List (List ℕ) → Type 0) → ((s : List (List ℕ)) → s ≡ sent_after old.calls.items → Sent s) →
+pub nothing_done : (old new : CallLog) → new.calls ≡ old.calls → new.now ≡ old.now → new.first ≡ old.first
+    → (Sent : List (List ℕ) → Type 0) → ((s : List (List ℕ)) → s ≡ sent_after old.calls.items → Sent s) →
     Still (image_of old.first) (image_of new.first) old.calls.items new.calls.items (image_of old.now) (image_of new.now) × PassesWith (image_of old.first) (image_of new.first) old.calls.items new.calls.items Sent
 nothing_done old new calls now first Sent sent =
     let was = image_of old.first in

@@ -13,7 +13,9 @@ module _ (xs : List ℕ) (taken start n : ℕ) (is : start ≡ min taken (length
   taken-next = same_lists _ _ (grind (arith, places, is)) (λ k d h. grind (arith, places, is))
 
 -- what a receive on a connection waits behind
-pub wait-is : (connection : MemConnection) (taken sent : ℕ) → taken ≡ min connection.taken (length connection.input) → sent ≡ length connection.sent.items → wait_of (connection_of connection) ≡ record { taken = taken; sent = sent }
+pub wait-is : (connection : MemConnection) (taken sent : ℕ)
+    → taken ≡ min connection.taken (length connection.input) → sent ≡ length connection.sent.items
+    → wait_of (connection_of connection) ≡ record { taken = taken; sent = sent }
 wait-is connection taken sent before same =
     let as_taken = length-take connection.taken connection.input ∙ sym before in
     λ k. record { taken = as_taken k; sent = sym same k }

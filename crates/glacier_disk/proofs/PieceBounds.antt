@@ -4,12 +4,15 @@ use Rattle.std.proofs.lemmas.List.{drop_all, drop-drop}
 use Rattle.glacier_disk.specs.PieceSizes.{bounded}
 use Rattle.glacier_disk.specs.Network.{Connection, OnLast}
 
-bounded_min : (pieces : List ℕ) (room coming : ℕ) → min room (min (bounded pieces room) coming) ≡ bounded pieces (min room coming)
+bounded_min : (pieces : List ℕ) (room coming : ℕ)
+    → min room (min (bounded pieces room) coming) ≡ bounded pieces (min room coming)
 bounded_min [] room coming = omega arith
 bounded_min (piece ∷ pieces) room coming = omega arith
 
 -- what a receive takes, by the bound that its room and the plan give
-pub piece_size : (pieces : List ℕ) (room limit n : ℕ) {old new : List Connection} → limit ≡ bounded pieces room → OnLast (λ from to. n ≡ min room (min limit (length from.coming))) old new → OnLast (λ from to. n ≡ bounded pieces (min room (length from.coming))) old new
+pub piece_size : (pieces : List ℕ) (room limit n : ℕ) {old new : List Connection} → limit ≡ bounded pieces room
+    → OnLast (λ from to. n ≡ min room (min limit (length from.coming))) old new
+    → OnLast (λ from to. n ≡ bounded pieces (min room (length from.coming))) old new
 piece_size pieces room limit n is last = record {
   before = last.before;
   from = last.from;

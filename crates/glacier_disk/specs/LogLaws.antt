@@ -9,7 +9,8 @@ use Rattle.glacier_disk.specs.declared.call.Call.TheVariants.{Write, Cut, Sync}
 use Rattle.glacier_disk.specs.Image.{Image, put, padded, TornWrite, TornCut, SameBut}
 use Rattle.glacier_disk.specs.Log.{after_call, after_calls, left_by_call, left_by_calls, left_after, LeftSince, AreDiskCalls, Grows, with_area}
 
-pub counts : (first : Image) (calls : List Call) (t : ℕ) (i : Image) → t ≤ length calls → left_after first calls i → LeftSince first calls t i
+pub counts : (first : Image) (calls : List Call) (t : ℕ) (i : Image) → t ≤ length calls
+    → left_after first calls i → LeftSince first calls t i
 counts first calls t i le now = record {
   moment = length calls;
   late = le;
@@ -17,7 +18,8 @@ counts first calls t i le now = record {
   left = subst (λ (cs : List Call). left_after first cs i) (sym (take_all (length calls) calls (omega arith))) now;
 }
 
-pub only : (first : Image) (calls : List Call) (i : Image) → LeftSince first calls (length calls) i → left_after first calls i
+pub only : (first : Image) (calls : List Call) (i : Image) → LeftSince first calls (length calls) i
+    → left_after first calls i
 only first calls i since =
     subst (λ (cs : List Call). left_after first cs i) (take_all since.moment calls since.late) since.left
 
@@ -75,7 +77,8 @@ module _ (place : ℕ) (bytes xs : List ℕ) where
   put_after : drop (place + length bytes) (put place bytes xs) ≡ drop (place + length bytes) xs
   put_after = drop_at (padded place xs ++ bytes) (drop (place + length bytes) xs) (place + length bytes) front_length
 
-pub put_torn : (area : Area) (place : ℕ) (bytes : List ℕ) (image : Image) → TornWrite area (min place (length (image area))) (place + length bytes) image (with_area area (put place bytes (image area)) image)
+pub put_torn : (area : Area) (place : ℕ) (bytes : List ℕ) (image : Image)
+    → TornWrite area (min place (length (image area))) (place + length bytes) image (with_area area (put place bytes (image area)) image)
 put_torn area place bytes image =
     let is = becomes area (put place bytes (image area)) image in
     let long = ap length is ∙ length-put place bytes (image area) in
@@ -98,13 +101,15 @@ cut_torn area n image =
       others = others_stay area _ image;
     }
 
-step_reads : (call : Call) (image : Image) (before : Image → Type 0) → before image → left_by_call call image before (after_call call image)
+step_reads : (call : Call) (image : Image) (before : Image → Type 0) → before image
+    → left_by_call call image before (after_call call image)
 step_reads (Write area place bytes) image before is = (image, is, put_torn area place bytes image)
 step_reads (Cut area n) image before is = (image, is, cut_torn area n image)
 step_reads Sync image before is = refl
 step_reads call image before is = is
 
-reads_among : (calls : List Call) (image : Image) (before : Image → Type 0) → before image → left_by_calls calls image before (after_calls calls image)
+reads_among : (calls : List Call) (image : Image) (before : Image → Type 0) → before image
+    → left_by_calls calls image before (after_calls calls image)
 reads_among [] image before is = is
 reads_among (call ∷ calls) image before is = reads_among calls (after_call call image) (left_by_call call image before) (step_reads call image before is)
 

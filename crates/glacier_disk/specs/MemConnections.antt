@@ -21,6 +21,7 @@ connections_on past None = map connection_of past
 connections_on past (Some connection) = map connection_of past ++ connection_of connection ∷ []
 
 -- an open connection's connection is the last one
-pub last_of : (past : List MemConnection) (last : Option MemConnection) → is_some last ≡ true → (before : List Connection) × (c : Connection) × (connections_on past last ≡ before ++ c ∷ [])
+pub last_of : (past : List MemConnection) (last : Option MemConnection) → is_some last ≡ true
+    → (before : List Connection) × (c : Connection) × (connections_on past last ≡ before ++ c ∷ [])
 last_of past None is = search rules
 last_of past (Some connection) is = (map connection_of past, connection_of connection, refl)

@@ -1,4 +1,4 @@
-// The record of a station in memory.
+// The calls of a station in memory.
 use crate::Area;
 use glacier_base::Text;
 

@@ -4,7 +4,7 @@ ghost use Rattle.glacier_disk.specs.MemConnections.{connection_of};
 ghost use Rattle.glacier_disk.specs.Network.{accepted, wait_of, Takes, TakesNone, SendsPart};
 
 use crate::waits::Waits;
-use glacier_base::Text;
+use glacier_base::{FaultCount, Text};
 use std::alloc::Global;
 
 #[derive(Drop)]
@@ -13,8 +13,8 @@ pub struct MemConnection {
     pub taken: usize,
     pub sent: Vec<u8>,
     pub waits: Waits,
-    pub receives_failed: u64,
-    pub sends_failed: u64,
+    pub receives_failed: FaultCount,
+    pub sends_failed: FaultCount,
 }
 
 impl MemConnection {
@@ -26,8 +26,8 @@ impl MemConnection {
             taken: 0,
             sent: Vec::new(alloc),
             waits: Waits::new(),
-            receives_failed: 0,
-            sends_failed: 0,
+            receives_failed: FaultCount::new(),
+            sends_failed: FaultCount::new(),
         }
     }
 
@@ -63,7 +63,7 @@ impl MemConnection {
         ensures { TakesNone (connection_of self.old) (connection_of self.new) }
     {
         self.waits = self.one_more_wait();
-        self.receives_failed = self.receives_failed.saturating_add(1);
+        let _ = self.receives_failed.failed();
     }
 
     /// A send that failed with no byte sent.
@@ -71,6 +71,6 @@ impl MemConnection {
         ensures { (bytes : List ℕ) → SendsPart 0 bytes (connection_of self.old)
             (connection_of self.new) }
     {
-        self.sends_failed = self.sends_failed.saturating_add(1);
+        let _ = self.sends_failed.failed();
     }
 }

@@ -21,14 +21,18 @@ events_in-append (accept ∷ first) more = events_in-append first more
 events_in-append (send b ∷ first) more = events_in-append first more
 events_in-append (keep h ∷ first) more = ap (λ (l : List AccountEvent). h ∷ l) (events_in-append first more)
 
-pub after_append : (state : State) (first more : List AccountEvent) → after_all state (first ++ more) ≡ after_all (after_all state first) more
+pub after_append : (state : State) (first more : List AccountEvent)
+    → after_all state (first ++ more) ≡ after_all (after_all state first) more
 after_append state [] more = refl
 after_append state (h ∷ first) more = after_append (after_account_event state h) first more
 
-pub after_acts-append : (state : State) (first more : List Act) → after_acts state (first ++ more) ≡ after_acts (after_acts state first) more
-after_acts-append state first more = ap (after_all state) (events_in-append first more) ∙ after_append state (events_in first) (events_in more)
+pub after_acts-append : (state : State) (first more : List Act)
+    → after_acts state (first ++ more) ≡ after_acts (after_acts state first) more
+after_acts-append state first more = ap (after_all state) (events_in-append first more)
+    ∙ after_append state (events_in first) (events_in more)
 
-pub sent_by-append : (first more : List Act) (sent : List (List ℕ)) → sent_by (first ++ more) sent ≡ sent_by more (sent_by first sent)
+pub sent_by-append : (first more : List Act) (sent : List (List ℕ))
+    → sent_by (first ++ more) sent ≡ sent_by more (sent_by first sent)
 sent_by-append [] more sent = refl
 sent_by-append (accept ∷ first) more sent = sent_by-append first more (sent ++ [] ∷ [])
 sent_by-append (send b ∷ first) more sent = sent_by-append first more (on_last (b ∷ []) sent)
@@ -59,7 +63,8 @@ pub sent_by-keeps : (events : List AccountEvent) (sent : List (List ℕ)) → se
 sent_by-keeps [] sent = refl
 sent_by-keeps (h ∷ events) sent = sent_by-keeps events sent
 
-on_last-more : (b : ℕ) (bytes : List ℕ) (sent : List (List ℕ)) → on_last bytes (on_last (b ∷ []) sent) ≡ on_last (b ∷ bytes) sent
+on_last-more : (b : ℕ) (bytes : List ℕ) (sent : List (List ℕ))
+    → on_last bytes (on_last (b ∷ []) sent) ≡ on_last (b ∷ bytes) sent
 on_last-more b bytes [] = refl
 on_last-more b bytes (c ∷ []) = ap (λ (l : List ℕ). l ∷ []) (append_assoc c (b ∷ []) bytes)
 on_last-more b bytes (c ∷ d ∷ []) = ap (λ (l : List (List ℕ)). c ∷ l) (on_last-more b bytes (d ∷ []))
@@ -72,7 +77,8 @@ sent_by-sends (b ∷ bytes) sent = sent_by-sends bytes (on_last (b ∷ []) sent)
 pub after-sends : (state : State) (bytes : List ℕ) → after_acts state (sends bytes) ≡ state
 after-sends state bytes = ap (after_all state) (events_in-sends bytes)
 
-pub after-keeps : (state : State) (events : List AccountEvent) → after_acts state (keeps events) ≡ after_all state events
+pub after-keeps : (state : State) (events : List AccountEvent)
+    → after_acts state (keeps events) ≡ after_all state events
 after-keeps state events = ap (after_all state) (events_in-keeps events)
 
 -- no call at all
@@ -80,32 +86,38 @@ pub does_nothing : (s : Told) (state : State) → Does s s state state []
 does_nothing s state = record { all_sent = refl; after_is = refl }
 
 -- one stretch after another
-pub does_then : {a b c : Told} {s m e : State} {first more : List Act} → Does a b s m first → Does b c m e more → Does a c s e (first ++ more)
+pub does_then : {a b c : Told} {s m e : State} {first more : List Act} → Does a b s m first → Does b c m e more
+    → Does a c s e (first ++ more)
 does_then {a = a} {s = s} {first = first} {more = more} x y = record {
   all_sent = y.all_sent ∙ ap (sent_by more) x.all_sent ∙ sym (sent_by-append first more (sent_on a.connections));
   after_is = y.after_is ∙ ap (λ (k : State). after_acts k more) x.after_is ∙ sym (after_acts-append s first more);
 }
 
 -- the same acts, said otherwise
-pub does_says : {a b : Told} {s e : State} {acts others : List Act} → acts ≡ others → Does a b s e acts → Does a b s e others
+pub does_says : {a b : Told} {s e : State} {acts others : List Act} → acts ≡ others → Does a b s e acts
+    → Does a b s e others
 does_says {a = a} {b = b} {s = s} {e = e} same does = subst (λ (l : List Act). Does a b s e l) same does
 
 -- a call in which nothing is sent, or these bytes are
-pub does_quiet : {old new : Told} (state : State) → sent_on new.connections ≡ sent_on old.connections → Does old new state state []
+pub does_quiet : {old new : Told} (state : State) → sent_on new.connections ≡ sent_on old.connections
+    → Does old new state state []
 does_quiet state same = record { all_sent = same; after_is = refl }
 
-pub does_send : {old new : Told} (state : State) (bytes : List ℕ) → sent_on new.connections ≡ on_last bytes (sent_on old.connections) → Does old new state state (sends bytes)
+pub does_send : {old new : Told} (state : State) (bytes : List ℕ)
+    → sent_on new.connections ≡ on_last bytes (sent_on old.connections) → Does old new state state (sends bytes)
 does_send {old = old} state bytes more = record {
   all_sent = more ∙ sym (sent_by-sends bytes (sent_on old.connections));
   after_is = sym (after-sends state bytes);
 }
 
 -- `accept`
-pub does_accept : {old new : Told} (state : State) → sent_on new.connections ≡ sent_on old.connections ++ [] ∷ [] → Does old new state state (accept ∷ [])
+pub does_accept : {old new : Told} (state : State) → sent_on new.connections ≡ sent_on old.connections ++ [] ∷ []
+    → Does old new state state (accept ∷ [])
 does_accept state more = record { all_sent = more; after_is = refl }
 
 -- events are kept, and no call is made
-pub does_keep : (s : Told) (state after : State) (events : List AccountEvent) → after ≡ after_all state events → Does s s state after (keeps events)
+pub does_keep : (s : Told) (state after : State) (events : List AccountEvent) → after ≡ after_all state events
+    → Does s s state after (keeps events)
 does_keep s state after events is = record {
   all_sent = sym (sent_by-keeps events (sent_on s.connections));
   after_is = is ∙ sym (after-keeps state events);

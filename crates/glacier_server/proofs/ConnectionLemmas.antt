@@ -30,7 +30,8 @@ module _ {config : Config} {a : Told} {state : State} where
     session = taking state [] [];
     starts = refl;
     transfer = stays a state;
-    so_far = subst (λ (l : List ℕ). SoFar config (taking state [] []) (standing 0 l state) None) (sym none) (run.nothing config state);
+    so_far = subst (λ (l : List ℕ). SoFar config (taking state [] []) (standing 0 l state) None) (sym none)
+        (run.nothing config state);
     prompt = All-nil _;
   }
 
@@ -49,42 +50,53 @@ module _ {config : Config} {a : Told} {state : State} where
     leads t starts = starts ∙ x.so_far.state
 
     -- at each wait of an exchange, all was done that was due
-    prompt_then : (t : Session) → t.before ≡ from.state → HeldWaiting (wait_of (current b.connections)) t (λ till. Idles (exchange_on from [] [] till))
+    prompt_then : (t : Session) → t.before ≡ from.state
+        → HeldWaiting (wait_of (current b.connections)) t (λ till. Idles (exchange_on from [] [] till))
         → IsPrompt config (wait_of (current a.connections)) (joined x.session t)
     prompt_then t starts idle =
-        held_then (wait_of (current a.connections)) x.session t (Stops config) (λ till. Idles (exchange_on from [] [] till)) x.prompt
-        (subst (λ (w : Wait). HeldWaiting w t (λ till. Idles (exchange_on from [] [] till))) (moved x.session x.transfer) idle)
+        held_then (wait_of (current a.connections)) x.session t (Stops config) (λ till. Idles
+        (exchange_on from [] [] till)) x.prompt
+        (subst (λ (w : Wait). HeldWaiting w t (λ till. Idles (exchange_on from [] [] till)))
+        (moved x.session x.transfer) idle)
         (λ u front holds. stops config x.session u from x.so_far (front.before ∙ starts) [] [] holds)
 
     -- one more
-    pub one_more_last : {c : Told} (to : Standing) → from.count + 1 ≡ to.count → Exchanges config from to b c None → SoFarLast config a c state to
+    pub one_more_last : {c : Told} (to : Standing) → from.count + 1 ≡ to.count → Exchanges config from to b c None
+        → SoFarLast config a c state to
     one_more_last {c = c} to counts y =
-        let next = goes_on config x.session y.session from x.so_far y.starts to.unread (current c.connections).coming None y.exchange.0 in record {
+        let next = goes_on config x.session y.session from x.so_far y.starts to.unread
+        (current c.connections).coming None y.exchange.0 in record {
           session = joined x.session y.session;
           starts = x.starts;
           transfer = then x.session y.session (leads y.session y.starts) x.transfer y.transfer;
           so_far = subst (λ (k : Standing). SoFar config (joined x.session y.session) k None)
-              (ap (λ (n : ℕ). standing n y.exchange.0.rest y.session.after) counts ∙ ap (λ (l : List ℕ). standing to.count l y.session.after) y.exchange.1 ∙ ap (λ (k : State). standing to.count to.unread k) y.leaves) next;
+              (ap (λ (n : ℕ). standing n y.exchange.0.rest y.session.after) counts
+              ∙ ap (λ (l : List ℕ). standing to.count l y.session.after) y.exchange.1
+              ∙ ap (λ (k : State). standing to.count to.unread k) y.leaves) next;
           prompt = prompt_then y.session y.starts y.idle;
         }
 
     -- the end
-    pub served_last : {c : Told} {to : Standing} {e : End} → Exchanges config from to b c (Some e) → ServedLast config a c state to.state e
-    served_last {c = c} {to = to} {e = e} y = record {
-      session = joined x.session y.session;
-      starts = x.starts;
-      leaves = y.leaves;
-      transfer = then x.session y.session (leads y.session y.starts) x.transfer y.transfer;
-      served = served config x.session y.session from x.so_far y.starts to.unread (current c.connections).coming e y.exchange;
-      prompt = prompt_then y.session y.starts y.idle;
-    }
+    pub served_last : {c : Told} {to : Standing} {e : End} → Exchanges config from to b c (Some e)
+        → ServedLast config a c state to.state e
+    served_last {c = c} {to = to} {e = e} y =
+        let moves = then x.session y.session (leads y.session y.starts) x.transfer y.transfer in record {
+          session = joined x.session y.session;
+          starts = x.starts;
+          leaves = y.leaves;
+          transfer = moves;
+          served = served config x.session y.session from x.so_far y.starts to.unread
+              (current c.connections).coming e y.exchange moves.does.after_is;
+          prompt = prompt_then y.session y.starts y.idle;
+        }
 
     -- no memory for one more
     pub part_last : {c : Told} → BreaksOff config from b c → PartLast config a c state
-    part_last y = record {
-      session = joined x.session y.session;
-      starts = x.starts;
-      transfer = then x.session y.session (leads y.session y.starts) x.transfer y.transfer;
-      part = breaks config x.session y.session from x.so_far y.starts [] [] y.part;
-      prompt = prompt_then y.session y.starts y.idle;
-    }
+    part_last y =
+        let moves = then x.session y.session (leads y.session y.starts) x.transfer y.transfer in record {
+          session = joined x.session y.session;
+          starts = x.starts;
+          transfer = moves;
+          part = breaks config x.session y.session from x.so_far y.starts [] [] y.part moves.does.after_is;
+          prompt = prompt_then y.session y.starts y.idle;
+        }

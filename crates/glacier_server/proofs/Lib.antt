@@ -4,13 +4,16 @@ mod AnswerLemmas
 mod CommitLemmas
 mod ConnectionLemmas
 mod CutLemmas
+mod EndLemmas
 mod EventLemmas
 mod Examples
 mod ExchangeLemmas
 mod ExtentLemmas
+mod KeepLemmas
 mod ListLemmas
 mod MessageLemmas
 mod OutLemmas
+mod RefuseLemmas
 mod ReplyLemmas
 mod RunLemmas
 mod RunOneLemmas

@@ -1,5 +1,5 @@
 -- Sessions one after another, and the waits in them.
-use Rattle.std.proofs.Common.{◌≡◌, ℕ, ◌+◌, List, [], ◌∷◌, ◌++◌, length, refl, sym, ap, ◌∙◌, arith, append_assoc, length-append}
+use Rattle.std.proofs.Common.{◌≡◌, ℕ, List, ◌++◌, length, refl, sym, ap, ◌∙◌, arith, append_assoc, length-append}
 use Rattle.std.specs.Prelude.{All}
 use Rattle.std.proofs.lemmas.List.Elements.{All-append}
 use Rattle.glacier_disk.specs.Network.{Wait}
@@ -22,15 +22,25 @@ pub all_more : {X : Type 0} (P Q : X → Type 0) (xs : List X) → ((x : X) → 
 all_more P Q xs each all = λ k d within. each _ (all k d within)
 
 -- two points are the same where their counts are
-pub same_wait : (a b c d : ℕ) → a ≡ b → c ≡ d → (let w : Wait = record { taken = a; sent = c } in w) ≡ record { taken = b; sent = d }
+pub same_wait : (a b c d : ℕ) → a ≡ b → c ≡ d
+    → (let w : Wait = record { taken = a; sent = c } in w) ≡ record { taken = b; sent = d }
 same_wait a b c d first second =
-    ap (λ (k : ℕ). (let w : Wait = record { taken = k; sent = c } in w)) first ∙ ap (λ (k : ℕ). (let w : Wait = record { taken = b; sent = k } in w)) second
+    ap (λ (k : ℕ). (let w : Wait = record { taken = k; sent = c } in w)) first
+    ∙ ap (λ (k : ℕ). (let w : Wait = record { taken = b; sent = k } in w)) second
 
 front_more : {A : Type 0} (front all more : List A) → IsFront front all → IsFront front (all ++ more)
-front_more {A} front all more (rest, is) = (rest ++ more, ap (λ (l : List A). l ++ more) is ∙ append_assoc front rest more)
+front_more {A} front all more (rest, is) = (
+  rest ++ more,
+  ap (λ (l : List A). l ++ more) is
+      ∙ append_assoc front rest more,
+)
 
 front_behind : {A : Type 0} (first front all : List A) → IsFront front all → IsFront (first ++ front) (first ++ all)
-front_behind {A} first front all (rest, is) = (rest, ap (λ (l : List A). first ++ l) is ∙ sym (append_assoc first front rest))
+front_behind {A} first front all (rest, is) = (
+  rest,
+  ap (λ (l : List A). first ++ l) is
+      ∙ sym (append_assoc first front rest),
+)
 
 wait_joined : (start : Wait) (s u : Session) → wait_after (wait_after start s) u ≡ wait_after start (joined s u)
 wait_joined start s u =
@@ -38,7 +48,8 @@ wait_joined start s u =
     (omega (arith, ap length (bytes_of-append s.acts u.acts), length-append (bytes_of s.acts) (bytes_of u.acts)))
 
 -- waits of the first stretch, and of the one behind it
-held_more : (start : Wait) (s t : Session) (P : Session → Type 0) (w : Wait) → HeldAt start s P w → HeldAt start (joined s t) P w
+held_more : (start : Wait) (s t : Session) (P : Session → Type 0) (w : Wait) → HeldAt start s P w
+    → HeldAt start (joined s t) P w
 held_more start s t P w x = record {
   till = x.till;
   front = record {
@@ -51,7 +62,8 @@ held_more start s t P w x = record {
   holds = x.holds;
 }
 
-held_behind : (start : Wait) (s t : Session) (P Q : Session → Type 0) → ((u : Session) → IsFrontOf u t → Q u → P (joined s u)) → (w : Wait)
+held_behind : (start : Wait) (s t : Session) (P Q : Session → Type 0) → ((u : Session) → IsFrontOf u t → Q u
+    → P (joined s u)) → (w : Wait)
     → HeldAt (wait_after start s) t Q w → HeldAt start (joined s t) P w
 held_behind start s t P Q leads w x = record {
   till = joined s x.till;
@@ -65,9 +77,11 @@ held_behind start s t P Q leads w x = record {
   holds = leads x.till x.front x.holds;
 }
 
-pub held_then : (start : Wait) (s t : Session) (P Q : Session → Type 0) → HeldWaiting start s P → HeldWaiting (wait_after start s) t Q
+pub held_then : (start : Wait) (s t : Session) (P Q : Session → Type 0) → HeldWaiting start s P
+    → HeldWaiting (wait_after start s) t Q
     → ((u : Session) → IsFrontOf u t → Q u → P (joined s u)) → HeldWaiting start (joined s t) P
 held_then start s t P Q first second leads =
     All-append (HeldAt start (joined s t) P) s.waits t.waits
     (all_more (HeldAt start s P) (HeldAt start (joined s t) P) s.waits (held_more start s t P) first)
-    (all_more (HeldAt (wait_after start s) t Q) (HeldAt start (joined s t) P) t.waits (held_behind start s t P Q leads) second)
+    (all_more (HeldAt (wait_after start s) t Q) (HeldAt start (joined s t) P) t.waits
+    (held_behind start s t P Q leads) second)

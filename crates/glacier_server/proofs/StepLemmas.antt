@@ -1,5 +1,5 @@
 -- What one call does on the last connection.
-use Rattle.std.proofs.Common.{◌≡◌, ℕ, ◌+◌, List, [], ◌∷◌, ◌++◌, length, take, refl, sym, ap, subst, ◌∙◌, arith, append-nil}
+use Rattle.std.proofs.Common.{◌≡◌, ℕ, List, [], ◌∷◌, ◌++◌, length, take, refl, sym, ap, subst, ◌∙◌, arith, append-nil}
 use Rattle.std.specs.Prelude.{Result, Ok, Err}
 use Rattle.std.proofs.lemmas.List.Elements.{All-nil, All-cons}
 use Rattle.glacier_disk.specs.Calls.{ReceiveCall, Receives, SendCall, NowCall, SendsAll, SendsFirst}
@@ -7,7 +7,7 @@ use Rattle.glacier_disk.specs.Network.{Connection, Wait, OnLast, Takes as TakesS
 use Rattle.glacier_disk.specs.Told.{Told}
 use Rattle.glacier_disk.proofs.Connections.{sent_same, sent_more}
 use Rattle.glacier_machine.specs.Outcomes.{AccountEvent, after_all}
-use Rattle.glacier_server.specs.Acts.{Act, sends as acts, keeps as acts_of, bytes_of}
+use Rattle.glacier_server.specs.Acts.{sends as acts, keeps as acts_of, bytes_of}
 use Rattle.glacier_server.specs.Machine.{State}
 use Rattle.glacier_server.specs.Session.{Session, taking, reading, acting}
 use Rattle.glacier_server.specs.Transfer.{Does, Transfer, TakenAt, Takes, SentAll, SentPart, Failing, nothing, receiving, sending, receiving_if, received, Fails, current, others}
@@ -43,25 +43,33 @@ ends on = record {
 }
 
 -- the bytes sent on each connection, where the last one sends none, or these
-same_sent : {step : Connection → Connection → Type 0} {old new : List Connection} (on : OnLast step old new) → on.to.sent ≡ on.from.sent → sent_on new ≡ sent_on old
+same_sent : {step : Connection → Connection → Type 0} {old new : List Connection} (on : OnLast step old new)
+    → on.to.sent ≡ on.from.sent → sent_on new ≡ sent_on old
 same_sent on same = ap sent_on on.is ∙ sent_same on.before on.from on.to same ∙ ap sent_on (sym on.was)
 
-more_sent : {step : Connection → Connection → Type 0} {old new : List Connection} (on : OnLast step old new) (bytes : List ℕ) → on.to.sent ≡ on.from.sent ++ bytes → sent_on new ≡ on_last bytes (sent_on old)
-more_sent on bytes more = ap sent_on on.is ∙ sent_more on.before on.from on.to bytes more ∙ ap (λ (l : List Connection). on_last bytes (sent_on l)) (sym on.was)
+more_sent : {step : Connection → Connection
+    → Type 0} {old new : List Connection} (on : OnLast step old new) (bytes : List ℕ)
+    → on.to.sent ≡ on.from.sent ++ bytes → sent_on new ≡ on_last bytes (sent_on old)
+more_sent on bytes more = ap sent_on on.is ∙ sent_more on.before on.from on.to bytes more
+    ∙ ap (λ (l : List Connection). on_last bytes (sent_on l)) (sym on.was)
 
 -- one step, whose parts are these
-transfer_by : {old new : Told} {step : Connection → Connection → Type 0} (e : Ends step old.connections new.connections) (s : Session) (sent : List ℕ) (failing : Failing)
+transfer_by : {old new : Told} {step : Connection → Connection
+    → Type 0} (e : Ends step old.connections new.connections) (s : Session) (sent : List ℕ) (failing : Failing)
     → Does old new s.before s.after s.acts → bytes_of s.acts ≡ sent → new.readings ≡ old.readings ++ s.readings
-    → e.to.taken ≡ e.from.taken ++ s.taken → e.from.coming ≡ s.taken ++ e.to.coming → e.to.sent ≡ e.from.sent ++ sent → e.to.waits ≡ e.from.waits ++ s.waits
+    → e.to.taken ≡ e.from.taken ++ s.taken → e.from.coming ≡ s.taken ++ e.to.coming
+    → e.to.sent ≡ e.from.sent ++ sent → e.to.waits ≡ e.from.waits ++ s.waits
     → Fails failing e.from e.to → Transfer old new s failing
 transfer_by {old = old} {new = new} e s sent failing does bytes read took coming sent_now waited fails = record {
   took = ap (λ (c : Connection). c.taken) e.is ∙ took ∙ ap (λ (c : Connection). c.taken ++ s.taken) (sym e.was);
   coming = ap (λ (c : Connection). c.coming) e.was ∙ coming ∙ ap (λ (c : Connection). s.taken ++ c.coming) (sym e.is);
-  sent_now = ap (λ (c : Connection). c.sent) e.is ∙ sent_now ∙ ap (λ (c : Connection). c.sent ++ sent) (sym e.was) ∙ ap (λ (l : List ℕ). (current old.connections).sent ++ l) (sym bytes);
+  sent_now = ap (λ (c : Connection). c.sent) e.is ∙ sent_now ∙ ap (λ (c : Connection). c.sent ++ sent) (sym e.was)
+      ∙ ap (λ (l : List ℕ). (current old.connections).sent ++ l) (sym bytes);
   waited = ap (λ (c : Connection). c.waits) e.is ∙ waited ∙ ap (λ (c : Connection). c.waits ++ s.waits) (sym e.was);
   read = read;
   rest = e.same;
-  fails = subst (λ (c : Connection). Fails failing c (current new.connections)) (sym e.was) (subst (λ (c : Connection). Fails failing e.from c) (sym e.is) fails);
+  fails = subst (λ (c : Connection). Fails failing c (current new.connections)) (sym e.was) (subst (λ
+      (c : Connection). Fails failing e.from c) (sym e.is) fails);
   does = does;
 }
 
@@ -75,33 +83,42 @@ module _ {T E : Type 0} {old new : Told} {result : Result T E} (call : ReceiveCa
     till = [];
     later = bytes;
     cut = refl;
-    at = ap (λ (k : ℕ). (let w : Wait = record { taken = k; sent = length (current old.connections).sent } in w)) (omega arith);
+    at = ap (λ (k : ℕ). (let w : Wait = record { taken = k; sent = length (current old.connections).sent } in w))
+        (omega arith);
     holds = refl;
   }
 
-  waits_at : {step : Connection → Connection → Type 0} (e : Ends step old.connections new.connections) → e.to.waits ≡ e.from.waits ++ wait_of e.from ∷ [] → e.to.waits ≡ e.from.waits ++ wait ∷ []
+  waits_at : {step : Connection → Connection → Type 0} (e : Ends step old.connections new.connections)
+      → e.to.waits ≡ e.from.waits ++ wait_of e.from ∷ [] → e.to.waits ≡ e.from.waits ++ wait ∷ []
   waits_at e is = is ∙ ap (λ (c : Connection). e.from.waits ++ wait_of c ∷ []) (sym e.was)
 
-  takes_some : {bytes : List ℕ} → OnLast (TakesStep bytes) old.connections new.connections → Takes old new bytes (λ l. l ≡ []) nothing
+  takes_some : {bytes : List ℕ} → OnLast (TakesStep bytes) old.connections new.connections
+      → Takes old new bytes (λ l. l ≡ []) nothing
   takes_some {bytes = bytes} on =
       let e = ends on in record {
         waits = wait ∷ [];
-        transfer = λ state. transfer_by e (taking state bytes (wait ∷ [])) [] nothing (does_quiet state (same_sent on on.steps.sent)) refl (call.readings ∙ sym (append-nil _))
-            e.steps.taken e.steps.coming (e.steps.sent ∙ sym (append-nil _)) (waits_at e e.steps.waits) (e.steps.receives_failed, e.steps.sends_failed);
-        each = All-cons (TakenAt wait bytes (λ l. l ≡ [])) wait [] (here bytes) (All-nil (TakenAt wait bytes (λ l. l ≡ [])));
+        transfer = λ state. transfer_by e (taking state bytes (wait ∷ [])) [] nothing (does_quiet state
+            (same_sent on on.steps.sent)) refl (call.readings ∙ sym (append-nil _))
+            e.steps.taken e.steps.coming (e.steps.sent
+            ∙ sym (append-nil _)) (waits_at e e.steps.waits) (e.steps.receives_failed, e.steps.sends_failed);
+        each = All-cons (TakenAt wait bytes (λ l. l ≡ [])) wait [] (here bytes) (All-nil (TakenAt wait bytes
+            (λ l. l ≡ [])));
       }
 
   takes_nothing : OnLast TakesNone old.connections new.connections → Takes old new [] (λ l. l ≡ []) receiving
   takes_nothing on =
       let e = ends on in record {
         waits = wait ∷ [];
-        transfer = λ state. transfer_by e (taking state [] (wait ∷ [])) [] receiving (does_quiet state (same_sent on on.steps.sent)) refl (call.readings ∙ sym (append-nil _))
-            (e.steps.taken ∙ sym (append-nil _)) (sym e.steps.coming) (e.steps.sent ∙ sym (append-nil _)) (waits_at e e.steps.waits) (e.steps.receives_failed, e.steps.sends_failed);
+        transfer = λ state. transfer_by e (taking state [] (wait ∷ [])) [] receiving (does_quiet state
+            (same_sent on on.steps.sent)) refl (call.readings ∙ sym (append-nil _))
+            (e.steps.taken ∙ sym (append-nil _)) (sym e.steps.coming) (e.steps.sent
+            ∙ sym (append-nil _)) (waits_at e e.steps.waits) (e.steps.receives_failed, e.steps.sends_failed);
         each = All-cons (TakenAt wait [] (λ l. l ≡ [])) wait [] (here []) (All-nil (TakenAt wait [] (λ l. l ≡ [])));
       }
 
 -- what a receive took, whatever it answered
-pub takes_once : {E : Type 0} {old new : Told} (result : Result ℕ E) (before after : List ℕ) → ReceiveCall old new result → Receives before after old.connections new.connections result
+pub takes_once : {E : Type 0} {old new : Told} (result : Result ℕ E) (before after : List ℕ)
+    → ReceiveCall old new result → Receives before after old.connections new.connections result
     → Takes old new (received result after) (λ l. l ≡ []) (receiving_if result)
 takes_once (Ok n) before after call receives = takes_some call receives.takes
 takes_once (Err e) before after call receives = takes_nothing call receives.failed
@@ -110,41 +127,62 @@ pub none_coming : {old new : List Connection} → OnLast (λ from to. to.coming 
 none_coming on = let e = ends on in ap (λ (c : Connection). c.coming) e.is ∙ e.steps
 
 -- a send, all of whose bytes went out, or the first ones
-pub sent_all : {T E : Type 0} {old new : Told} {result : Result T E} (bytes : List ℕ) → SendCall old new result → SendsAll bytes old new → SentAll old new bytes
+pub sent_all : {T E : Type 0} {old new : Told} {result : Result T E} (bytes : List ℕ) → SendCall old new result
+    → SendsAll bytes old new → SentAll old new bytes
 sent_all bytes call all state =
     let e = ends all.step in
-    transfer_by e (acting state state (acts bytes)) bytes nothing (does_send state bytes (more_sent all.step bytes all.step.steps.sent)) (bytes_of-sends bytes)
-    (call.readings ∙ sym (append-nil _)) (e.steps.taken ∙ sym (append-nil _)) (sym e.steps.coming) e.steps.sent (e.steps.waits ∙ sym (append-nil _)) (e.steps.receives_failed, e.steps.sends_failed)
+    transfer_by e (acting state state (acts bytes)) bytes nothing (does_send state bytes
+    (more_sent all.step bytes all.step.steps.sent)) (bytes_of-sends bytes)
+    (call.readings ∙ sym (append-nil _)) (e.steps.taken
+    ∙ sym (append-nil _)) (sym e.steps.coming) e.steps.sent (e.steps.waits
+    ∙ sym (append-nil _)) (e.steps.receives_failed, e.steps.sends_failed)
 
-pub sent_part : {T E : Type 0} {old new : Told} {result : Result T E} (bytes : List ℕ) → SendCall old new result → (n : ℕ) → SendsFirst n bytes old new → SentPart old new bytes
+pub sent_part : {T E : Type 0} {old new : Told} {result : Result T E} (bytes : List ℕ) → SendCall old new result
+    → (n : ℕ) → SendsFirst n bytes old new → SentPart old new bytes
 sent_part bytes call n first = (
   n,
   λ state.
       let e = ends first.step in
       transfer_by e (acting state state (acts (take n bytes))) (take n bytes) sending
-      (does_send state (take n bytes) (more_sent first.step (take n bytes) first.step.steps.sent)) (bytes_of-sends (take n bytes))
-      (call.readings ∙ sym (append-nil _)) (e.steps.taken ∙ sym (append-nil _)) (sym e.steps.coming) e.steps.sent (e.steps.waits ∙ sym (append-nil _)) (e.steps.receives_failed, e.steps.sends_failed),
+      (does_send state (take n bytes) (more_sent first.step (take n bytes) first.step.steps.sent)) (bytes_of-sends
+      (take n bytes))
+      (call.readings ∙ sym (append-nil _)) (e.steps.taken
+      ∙ sym (append-nil _)) (sym e.steps.coming) e.steps.sent (e.steps.waits
+      ∙ sym (append-nil _)) (e.steps.receives_failed, e.steps.sends_failed),
 )
 
 -- calls that touch no connection
-untouched : {old new : Told} (s : Session) → s.taken ≡ [] → bytes_of s.acts ≡ [] → s.waits ≡ [] → Does old new s.before s.after s.acts → new.readings ≡ old.readings ++ s.readings
+untouched : {old new : Told} (s : Session) → s.taken ≡ [] → bytes_of s.acts ≡ [] → s.waits ≡ []
+    → Does old new s.before s.after s.acts → new.readings ≡ old.readings ++ s.readings
     → new.connections ≡ old.connections → Transfer old new s nothing
 untouched {old = old} {new = new} s none silent still does read same = record {
-  took = ap (λ (cs : List Connection). (current cs).taken) same ∙ sym (append-nil _) ∙ ap (λ (l : List ℕ). (current old.connections).taken ++ l) (sym none);
-  coming = ap (λ (cs : List Connection). (current cs).coming) (sym same) ∙ ap (λ (l : List ℕ). l ++ (current new.connections).coming) (sym none);
-  sent_now = ap (λ (cs : List Connection). (current cs).sent) same ∙ sym (append-nil _) ∙ ap (λ (l : List ℕ). (current old.connections).sent ++ l) (sym silent);
-  waited = ap (λ (cs : List Connection). (current cs).waits) same ∙ sym (append-nil _) ∙ ap (λ (l : List Wait). (current old.connections).waits ++ l) (sym still);
+  took = ap (λ (cs : List Connection). (current cs).taken) same ∙ sym (append-nil _)
+      ∙ ap (λ (l : List ℕ). (current old.connections).taken ++ l) (sym none);
+  coming = ap (λ (cs : List Connection). (current cs).coming) (sym same)
+      ∙ ap (λ (l : List ℕ). l ++ (current new.connections).coming) (sym none);
+  sent_now = ap (λ (cs : List Connection). (current cs).sent) same ∙ sym (append-nil _)
+      ∙ ap (λ (l : List ℕ). (current old.connections).sent ++ l) (sym silent);
+  waited = ap (λ (cs : List Connection). (current cs).waits) same ∙ sym (append-nil _)
+      ∙ ap (λ (l : List Wait). (current old.connections).waits ++ l) (sym still);
   read = read;
   rest = ap others same;
-  fails = (ap (λ (cs : List Connection). (current cs).receives_failed) same, ap (λ (cs : List Connection). (current cs).sends_failed) same);
+  fails = (
+    ap (λ (cs : List Connection). (current cs).receives_failed) same,
+    ap (λ (cs : List Connection).
+        (current cs).sends_failed) same,
+  );
   does = does;
 }
 
 -- a reading
-pub reads : {old new : Told} (state : State) (r : ℕ) → NowCall old new → new.readings ≡ old.readings ++ r ∷ [] → Transfer old new (reading state r) nothing
-reads state r call is = untouched (reading state r) refl refl refl (does_quiet state (ap sent_on call.connections)) is call.connections
+pub reads : {old new : Told} (state : State) (r : ℕ) → NowCall old new → new.readings ≡ old.readings ++ r ∷ []
+    → Transfer old new (reading state r) nothing
+reads state r call is = untouched (reading state r) refl refl refl (does_quiet state
+    (ap sent_on call.connections)) is call.connections
 
 -- events are kept, and no call is made
-pub keeps_all : (s : Told) (state after : State) (events : List AccountEvent) → after ≡ after_all state events → Transfer s s (acting state after (acts_of events)) nothing
+pub keeps_all : (s : Told) (state after : State) (events : List AccountEvent) → after ≡ after_all state events
+    → Transfer s s (acting state after (acts_of events)) nothing
 keeps_all s state after events is =
-    untouched (acting state after (acts_of events)) refl (bytes_of-keeps events) refl (does_keep s state after events is) (sym (append-nil s.readings)) refl
+    untouched (acting state after (acts_of events)) refl (bytes_of-keeps events) refl
+    (does_keep s state after events is) (sym (append-nil s.readings)) refl

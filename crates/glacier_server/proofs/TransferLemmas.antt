@@ -1,5 +1,5 @@
 -- Stretches of calls on the last connection, one after another.
-use Rattle.std.proofs.Common.{◌≡◌, ℕ, ◌+◌, ◌<◌, ◌≤◌, List, [], ◌∷◌, ◌++◌, length, take, refl, sym, ap, subst, ◌∙◌, arith, append-nil, append_assoc, length-append, true}
+use Rattle.std.proofs.Common.{◌≡◌, ℕ, ◌+◌, ◌<◌, List, [], ◌++◌, length, take, refl, sym, ap, subst, ◌∙◌, arith, append-nil, append_assoc, length-append}
 use Rattle.std.specs.Prelude.{min}
 use Rattle.std.specs.FinMap as map
 use Rattle.std.proofs.lemmas.List.{take_min, take-append-le}
@@ -11,7 +11,7 @@ use Rattle.glacier_disk.specs.Told.{Told}
 use Rattle.glacier_server.specs.Acts.{Act, sends, bytes_of}
 use Rattle.glacier_server.specs.Machine.{State}
 use Rattle.glacier_server.specs.Session.{Session, taking, acting, wait_after}
-use Rattle.glacier_server.specs.Transfer.{Does, Transfer, TakenAt, Takes, TakesBehind, TakesOf, SentAll, SentPart, Failing, nothing, receiving, sending, breaking, Fails, Counts, Keeps, current}
+use Rattle.glacier_server.specs.Transfer.{Does, Transfer, TakenAt, Takes, TakesBehind, TakesOf, SentAll, SentPart, Failing, nothing, receiving, sending, breaking, Fails, current}
 use Rattle.glacier_server.proofs.ActLemmas.{bytes_of-append, sends-append, does_nothing, does_then}
 use Rattle.glacier_server.proofs.SessionLemmas.{joined, all_more, same_wait}
 
@@ -36,12 +36,14 @@ fails_then sending a b c first second = (second.0 ∙ first.0, second.1 ∙ ap o
 fails_then breaking a b c first second = (second.0 ∙ first.0, second.1 ∙ first.1)
 
 -- one stretch after another
-pub then : {a b c : Told} {failing : Failing} (s t : Session) → t.before ≡ s.after → Transfer a b s nothing → Transfer b c t failing → Transfer a c (joined s t) failing
+pub then : {a b c : Told} {failing : Failing} (s t : Session) → t.before ≡ s.after → Transfer a b s nothing
+    → Transfer b c t failing → Transfer a c (joined s t) failing
 then {a = a} {b = b} {c = c} {failing = failing} s t leads first second = record {
   took = second.took ∙ ap (λ (l : List ℕ). l ++ t.taken) first.took ∙ append_assoc _ s.taken t.taken;
   coming = first.coming ∙ ap (λ (l : List ℕ). s.taken ++ l) second.coming ∙ sym (append_assoc s.taken t.taken _);
   sent_now =
-      second.sent_now ∙ ap (λ (l : List ℕ). l ++ bytes_of t.acts) first.sent_now ∙ append_assoc _ (bytes_of s.acts) (bytes_of t.acts)
+      second.sent_now ∙ ap (λ (l : List ℕ). l ++ bytes_of t.acts) first.sent_now
+      ∙ append_assoc _ (bytes_of s.acts) (bytes_of t.acts)
       ∙ ap (λ (l : List ℕ). (current a.connections).sent ++ l) (sym (bytes_of-append s.acts t.acts));
   waited = second.waited ∙ ap (λ (l : List Wait). l ++ t.waits) first.waited ∙ append_assoc _ s.waits t.waits;
   read = second.read ∙ ap (λ (l : List ℕ). l ++ t.readings) first.read ∙ append_assoc _ s.readings t.readings;
@@ -51,7 +53,8 @@ then {a = a} {b = b} {c = c} {failing = failing} s t leads first second = record
 }
 
 -- only acts behind it
-pub acts_then : {a b c : Told} {failing : Failing} (s : Session) (after : State) (acts : List Act) → Transfer a b s nothing → Transfer b c (acting s.after after acts) failing
+pub acts_then : {a b c : Told} {failing : Failing} (s : Session) (after : State) (acts : List Act)
+    → Transfer a b s nothing → Transfer b c (acting s.after after acts) failing
     → Transfer a c (record s { after = after; acts = s.acts ++ acts }) failing
 acts_then {a = a} {c = c} {failing = failing} s after acts first second =
     subst (λ (x : Session). Transfer a c x failing) same (then s (acting s.after after acts) refl first second)
@@ -63,14 +66,19 @@ acts_then {a = a} {c = c} {failing = failing} s after acts first second =
         ∙ ap (λ (l : List Wait). record s { after = after; acts = s.acts ++ acts; waits = l }) (append-nil s.waits)
 
 -- the same acts and state, said otherwise
-pub says : {a b : Told} {failing : Failing} (s : Session) (acts : List Act) → s.acts ≡ acts → Transfer a b s failing → Transfer a b (record s { acts = acts }) failing
-says {a = a} {b = b} {failing = failing} s acts same x = subst (λ (l : List Act). Transfer a b (record s { acts = l }) failing) same x
+pub says : {a b : Told} {failing : Failing} (s : Session) (acts : List Act) → s.acts ≡ acts
+    → Transfer a b s failing → Transfer a b (record s { acts = acts }) failing
+says {a = a} {b = b} {failing = failing} s acts same x = subst (λ (l : List Act). Transfer a b
+    (record s { acts = l }) failing) same x
 
-pub leads : {a b : Told} {failing : Failing} (s : Session) (after : State) → s.after ≡ after → Transfer a b s failing → Transfer a b (record s { after = after }) failing
-leads {a = a} {b = b} {failing = failing} s after same x = subst (λ (k : State). Transfer a b (record s { after = k }) failing) same x
+pub leads : {a b : Told} {failing : Failing} (s : Session) (after : State) → s.after ≡ after
+    → Transfer a b s failing → Transfer a b (record s { after = after }) failing
+leads {a = a} {b = b} {failing = failing} s after same x = subst (λ (k : State). Transfer a b
+    (record s { after = k }) failing) same x
 
 -- what failed, said otherwise
-pub fails_as : {a b : Told} (s : Session) (failing other : Failing) → failing ≡ other → Transfer a b s failing → Transfer a b s other
+pub fails_as : {a b : Told} (s : Session) (failing other : Failing) → failing ≡ other → Transfer a b s failing
+    → Transfer a b s other
 fails_as {a = a} {b = b} s failing other same x = subst (λ (f : Failing). Transfer a b s f) same x
 
 -- the server breaks off where nothing failed
@@ -78,27 +86,50 @@ pub breaks_off : {a b : Told} (s : Session) → Transfer a b s nothing → Trans
 breaks_off s x = record { took = x.took; coming = x.coming; sent_now = x.sent_now; waited = x.waited; read = x.read; rest = x.rest; fails = x.fails; does = x.does }
 
 -- the point behind a session
-pub moved : {a b : Told} {failing : Failing} (s : Session) → Transfer a b s failing → wait_of (current b.connections) ≡ wait_after (wait_of (current a.connections)) s
+pub moved : {a b : Told} {failing : Failing} (s : Session) → Transfer a b s failing
+    → wait_of (current b.connections) ≡ wait_after (wait_of (current a.connections)) s
 moved {a = a} s x =
     same_wait _ _ _ _ (ap length x.took ∙ length-append (current a.connections).taken s.taken)
     (ap length x.sent_now ∙ length-append (current a.connections).sent (bytes_of s.acts))
 
 -- only bytes were taken: in no call, and in one stretch after another
 pub takes_none : (s : Told) (Holds : List ℕ → Type 0) → Takes s s [] Holds nothing
-takes_none s Holds = record { waits = []; transfer = stays s; each = All-nil (TakenAt (wait_of (current s.connections)) [] Holds) }
+takes_none s Holds = record {
+  waits = [];
+  transfer = stays s;
+  each = All-nil (TakenAt (wait_of
+      (current s.connections)) [] Holds);
+}
 
-module _ {a b c : Told} {failing : Failing} (got more : List ℕ) (P Q : List ℕ → Type 0) (first : Takes a b got P nothing) (second : Takes b c more Q failing) (leads_to : (l : List ℕ) → Q l → P (got ++ l)) where
-  sooner : (w : Wait) → TakenAt (wait_of (current a.connections)) got P w → TakenAt (wait_of (current a.connections)) (got ++ more) P w
-  sooner w x = record { till = x.till; later = x.later ++ more; cut = ap (λ (l : List ℕ). l ++ more) x.cut ∙ append_assoc x.till x.later more; at = x.at; holds = x.holds }
+module _ {a b c : Told} {failing : Failing} (got more : List ℕ) (P Q : List ℕ
+    → Type 0) (first : Takes a b got P nothing) (second : Takes b c more Q failing) (leads_to : (l : List ℕ) → Q l
+    → P (got ++ l)) where
+  sooner : (w : Wait) → TakenAt (wait_of (current a.connections)) got P w
+      → TakenAt (wait_of (current a.connections)) (got ++ more) P w
+  sooner w x = record {
+    till = x.till;
+    later = x.later ++ more;
+    cut = ap (λ (l : List ℕ). l ++ more) x.cut
+        ∙ append_assoc x.till x.later more;
+    at = x.at;
+    holds = x.holds;
+  }
 
-  later : (w : Wait) → TakenAt (wait_of (current b.connections)) more Q w → TakenAt (wait_of (current a.connections)) (got ++ more) P w
+  later : (w : Wait) → TakenAt (wait_of (current b.connections)) more Q w
+      → TakenAt (wait_of (current a.connections)) (got ++ more) P w
   later w x =
       let one = first.transfer map.empty in record {
         till = got ++ x.till;
         later = x.later;
         cut = ap (λ (l : List ℕ). got ++ l) x.cut ∙ sym (append_assoc got x.till x.later);
         at = x.at
-            ∙ same_wait _ _ _ _ (omega (arith, ap length one.took, length-append (current a.connections).taken got, length-append got x.till))
+            ∙ same_wait _ _ _ _ (omega (
+              arith,
+              ap length one.took,
+              length-append
+                  (current a.connections).taken got,
+              length-append got x.till,
+            ))
             (ap length (one.sent_now ∙ append-nil _));
         holds = leads_to x.till x.holds;
       }
@@ -106,35 +137,49 @@ module _ {a b c : Told} {failing : Failing} (got more : List ℕ) (P Q : List �
   pub takes_then : Takes a c (got ++ more) P failing
   takes_then = record {
     waits = first.waits ++ second.waits;
-    transfer = λ state. then (taking state got first.waits) (taking state more second.waits) refl (first.transfer state) (second.transfer state);
+    transfer = λ state. then (taking state got first.waits) (taking state more second.waits) refl
+        (first.transfer state) (second.transfer state);
     each =
         All-append (TakenAt (wait_of (current a.connections)) (got ++ more) P) first.waits second.waits
-        (all_more (TakenAt (wait_of (current a.connections)) got P) (TakenAt (wait_of (current a.connections)) (got ++ more) P) first.waits sooner first.each)
-        (all_more (TakenAt (wait_of (current b.connections)) more Q) (TakenAt (wait_of (current a.connections)) (got ++ more) P) second.waits later second.each);
+        (all_more (TakenAt (wait_of (current a.connections)) got P) (TakenAt (wait_of (current a.connections))
+        (got ++ more) P) first.waits sooner first.each)
+        (all_more (TakenAt (wait_of (current b.connections)) more Q) (TakenAt (wait_of (current a.connections))
+        (got ++ more) P) second.waits later second.each);
   }
 
 -- bytes behind those that were unread
 pub behind_none : (s : Told) (unread : List ℕ) (Holds : List ℕ → Type 0) → TakesBehind s s unread unread Holds nothing
 behind_none s unread Holds = record { got = []; behind = sym (append-nil unread); takes = takes_none s _ }
 
-pub behind_once : {a b : Told} {now got : List ℕ} {failing : Failing} (unread : List ℕ) → now ≡ unread ++ got → Takes a b got (λ l. l ≡ []) failing → TakesBehind a b unread now (λ l. l ≡ unread) failing
+pub behind_once : {a b : Told} {now got : List ℕ} {failing : Failing} (unread : List ℕ) → now ≡ unread ++ got
+    → Takes a b got (λ l. l ≡ []) failing → TakesBehind a b unread now (λ l. l ≡ unread) failing
 behind_once {a = a} {got = got} unread is takes = record {
   got = got;
   behind = is;
   takes = record {
     waits = takes.waits;
     transfer = takes.transfer;
-    each = all_more (TakenAt (wait_of (current a.connections)) got (λ l. l ≡ [])) (TakenAt (wait_of (current a.connections)) got (λ l. unread ++ l ≡ unread)) takes.waits
-        (λ w x. record { till = x.till; later = x.later; cut = x.cut; at = x.at; holds = ap (λ (l : List ℕ). unread ++ l) x.holds ∙ append-nil unread }) takes.each;
+    each = all_more (TakenAt (wait_of (current a.connections)) got (λ l. l ≡ [])) (TakenAt (wait_of
+        (current a.connections)) got (λ l. unread ++ l ≡ unread)) takes.waits
+        (λ w x. record {
+          till = x.till;
+          later = x.later;
+          cut = x.cut;
+          at = x.at;
+          holds = ap (λ
+              (l : List ℕ). unread ++ l) x.holds ∙ append-nil unread;
+        }) takes.each;
   };
 }
 
-pub behind_more : {a b c : Told} {unread mid now : List ℕ} {P : List ℕ → Type 0} {failing : Failing} → TakesBehind a b unread mid P nothing → P mid
+pub behind_more : {a b c : Told} {unread mid now : List ℕ} {P : List ℕ → Type 0} {failing : Failing}
+    → TakesBehind a b unread mid P nothing → P mid
     → TakesBehind b c mid now (λ l. l ≡ mid) failing → TakesBehind a c unread now P failing
 behind_more {unread = unread} {mid = mid} {P = P} first at second = record {
   got = first.got ++ second.got;
   behind = second.behind ∙ ap (λ (l : List ℕ). l ++ second.got) first.behind ∙ append_assoc unread first.got second.got;
-  takes = takes_then first.got second.got (λ l. P (unread ++ l)) (λ l. mid ++ l ≡ mid) first.takes second.takes (λ l same. subst P (still l same) at);
+  takes = takes_then first.got second.got (λ l. P (unread ++ l)) (λ l. mid ++ l ≡ mid) first.takes second.takes
+      (λ l same. subst P (still l same) at);
 }
   where
     still : (l : List ℕ) → mid ++ l ≡ mid → mid ≡ unread ++ (first.got ++ l)
@@ -144,62 +189,40 @@ behind_more {unread = unread} {mid = mid} {P = P} first at second = record {
 pub of_none : (s : Told) (missing : ℕ) → TakesOf s s missing missing nothing
 of_none s missing = record { got = []; sum = omega arith; takes = takes_none s _ }
 
-pub of_more : {a b c : Told} {missing mid left : ℕ} {failing : Failing} (more : List ℕ) → TakesOf a b missing mid nothing → 0 < mid → Takes b c more (λ l. l ≡ []) failing → left + length more ≡ mid
+pub of_more : {a b c : Told} {missing mid left : ℕ} {failing : Failing} (more : List ℕ)
+    → TakesOf a b missing mid nothing → 0 < mid → Takes b c more (λ l. l ≡ []) failing → left + length more ≡ mid
     → TakesOf a c missing left failing
 of_more {missing = missing} more first some second sum = record {
   got = first.got ++ more;
   sum = omega (arith, first.sum, sum, length-append first.got more);
-  takes = takes_then first.got more (λ l. length l < missing) (λ l. l ≡ []) first.takes second (λ l none. omega (arith, first.sum, some, length-append first.got l, ap length none));
+  takes = takes_then first.got more (λ l. length l < missing) (λ l. l ≡ []) first.takes second (λ l none. omega
+      (arith, first.sum, some, length-append first.got l, ap length none));
 }
 
 -- bytes sent behind others, all of them or a first part
-pub sent_then : {a b c : Told} (first more : List ℕ) → SentAll a b first → SentAll b c more → SentAll a c (first ++ more)
+pub sent_then : {a b c : Told} (first more : List ℕ) → SentAll a b first → SentAll b c more
+    → SentAll a c (first ++ more)
 sent_then first more one two state =
     says (acting state state (sends first ++ sends more)) (sends (first ++ more)) (sym (sends-append first more))
     (acts_then (acting state state (sends first)) state (sends more) (one state) (two state))
 
-pub part_then : {a b c : Told} (first more : List ℕ) → SentAll a b first → SentPart b c more → SentPart a c (first ++ more)
+pub part_then : {a b c : Told} (first more : List ℕ) → SentAll a b first → SentPart b c more
+    → SentPart a c (first ++ more)
 part_then first more one (n, two) = (
   length first + n,
-  λ state. says (acting state state (sends (first ++ take n more))) (sends (take (length first + n) (first ++ more))) (ap sends (sym (take-append-add first more n)))
-      (says (acting state state (sends first ++ sends (take n more))) (sends (first ++ take n more)) (sym (sends-append first (take n more)))
+  λ state. says (acting state state (sends (first ++ take n more))) (sends (take (length first + n)
+      (first ++ more))) (ap sends (sym (take-append-add first more n)))
+      (says (acting state state (sends first ++ sends (take n more))) (sends (first ++ take n more)) (sym
+      (sends-append first (take n more)))
       (acts_then (acting state state (sends first)) state (sends (take n more)) (one state) (two state))),
 )
 
 pub part_front : {a b : Told} (first more : List ℕ) → SentPart a b first → SentPart a b (first ++ more)
 part_front first more (n, one) =
     let k : ℕ = min n (length first) in
-    let same : take n first ≡ take k (first ++ more) = sym (take_min n first) ∙ sym (take-append-le k first more (omega arith)) in
-    (k, λ state. says (acting state state (sends (take n first))) (sends (take k (first ++ more))) (ap sends same) (one state))
-
--- what is kept, on every form
-pub keeps_self : (s : Told) → s.connected ≡ true → Keeps s s nothing
-keeps_self s is = record {
-  connected = is;
-  listener = refl;
-  folders = refl;
-  receives = omega arith;
-  sends = omega arith;
-  counts = (refl, refl);
-}
-
-counts_then : (failing : Failing) (a b c : Told) → Counts nothing a b → Counts failing b c → Counts failing a c
-counts_then nothing a b c first second = (second.0 ∙ first.0, second.1 ∙ first.1)
-counts_then receiving a b c first second = (second.0 ∙ ap one_more first.0, second.1 ∙ first.1)
-counts_then sending a b c first second = (second.0 ∙ first.0, second.1 ∙ ap one_more first.1)
-counts_then breaking a b c first second = (second.0 ∙ first.0, second.1 ∙ first.1)
-
-pub keeps_then : {failing : Failing} {a b c : Told} → Keeps a b nothing → Keeps b c failing → Keeps a c failing
-keeps_then {failing = failing} {a = a} {b = b} {c = c} first second = record {
-  connected = second.connected;
-  listener = second.listener ∙ first.listener;
-  folders = second.folders ∙ first.folders;
-  receives = omega (arith, first.receives, second.receives);
-  sends = omega (arith, first.sends, second.sends);
-  counts = counts_then failing a b c first.counts second.counts;
-}
-
-pub keeps_as : {a b : Told} (failing : Failing) {other : Failing} → failing ≡ other → Keeps a b failing → Keeps a b other
-keeps_as {a = a} {b = b} failing same x = subst (λ (f : Failing). Keeps a b f) same x
-
-pub ruleset kept = (keeps_then, keeps_self)
+    let same : take n first ≡ take k (first ++ more) = sym (take_min n first)
+    ∙ sym (take-append-le k first more (omega arith)) in (
+      k,
+      λ state. says (acting state state (sends (take n first))) (sends (take k (first ++ more))) (ap sends same)
+          (one state),
+    )

@@ -48,8 +48,7 @@ abbrev pub failing_on : {E : Type 0} → Result End E → Failing
 failing_on (Ok end) = failing_of end
 failing_on (Err e) = nothing
 
--- where a connection stands between two messages: so many were answered, these bytes are unread,
--- and the service has this state
+-- where a connection stands between messages: so many were answered, these bytes are unread, in this state
 pub record Standing : Type 0 where
   pub count : ℕ
   pub unread : List ℕ
@@ -62,8 +61,8 @@ standing count unread state = record { count = count; unread = unread; state = s
 abbrev pub BadStands : Standing → ℕ → BadHead → Type 0
 BadStands from count cause = (from.count ≡ count) × (rest : List ℕ) × BeginsBad from.unread cause rest
 
--- so many messages stand before it, these bytes were there for it, of which these are left unread
--- and behind which these are still to come, and this was done, at these readings
+-- so many messages stand before it, these bytes were there, these are left unread and these to come,
+-- and this was done, at these readings
 pub record Exchange : Type 0 where
   pub count : ℕ
   pub input : List ℕ

@@ -8,7 +8,7 @@ use Rattle.glacier_http.specs.Messages.{Message, Hears, Heard, BeginsNone, Input
 use Rattle.glacier_machine.specs.declared.config.Config.{Config}
 use Rattle.glacier_server.specs.declared.end.End.{End}
 use Rattle.glacier_server.specs.declared.end.End.TheVariants.{Closed, Cut, Refused, Bound, ReadFault, SendFault}
-use Rattle.glacier_server.specs.Acts.{Act}
+use Rattle.glacier_server.specs.Acts.{Act, after_acts}
 use Rattle.glacier_server.specs.Machine.{State}
 use Rattle.glacier_server.specs.Out.{run, out, Tells}
 use Rattle.glacier_server.specs.Session.{Session, HeldWaiting}
@@ -78,6 +78,7 @@ pub record AnsweredPart (config : Config) (s : Session) : Type 0 where
   pub all : out config 0 s.before messages s.readings ≡ s.acts ++ undone
   pub answered : (front : List Message) (m : Message) → messages ≡ front ++ m ∷ []
       → length (out config 0 s.before front s.readings) ≤ length s.acts
+  pub after_is : s.after ≡ after_acts s.before s.acts
 
 abbrev pub Part : Config → Session → Type 0
 Part config s = IsPartOfOut config s × AnsweredPart config s

@@ -22,17 +22,12 @@ fn most_of(missing: u64, room: usize) -> usize
 
 /// Takes what is missing of a body, piece after piece and no byte behind it, until it is whole or
 /// the input ends. It answers how many bytes are missing then.
-#[tactic(auto, using(crate::proofs::TransferLemmas::kept))]
-pub fn take_rest<S: Station>(
-    station: &mut S,
-    piece: &mut [u8],
-    missing: u64,
-) -> Result<u64, Failed>
+#[tactic(auto, using(crate::proofs::KeepLemmas::kept))]
+pub fn take_rest<S: Station>(station: &mut S, piece: &mut [u8], missing: u64) -> Result<u64, Failed>
     requires connected { (S.told station.old).connected ≡ true }
     requires room { 0 < length piece.old }
     ensures takes { IsTrue S.tells →
-        IfOk result (λ left. TakesOf (S.told station.old) (S.told station.new) missing left nothing)
-        }
+        IfOk result (λ left. TakesOf (S.told station.old) (S.told station.new) missing left nothing) }
     ensures failed { IsTrue S.tells →
         OnErr result ((left : ℕ) × (0 < left)
         × TakesOf (S.told station.old) (S.told station.new) missing left receiving) }

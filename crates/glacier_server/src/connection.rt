@@ -12,7 +12,7 @@ use std::alloc::Global;
 
 impl Service<'_> {
     /// Answers the messages of the open connection, one after another, until it ends.
-    #[tactic(auto, using(crate::proofs::TransferLemmas::kept))]
+    #[tactic(auto, using(crate::proofs::KeepLemmas::kept))]
     pub fn serve_open<S: Station>(
         &self,
         station: &mut S,

@@ -66,7 +66,7 @@ fn ended(unread: &ReadBuffer) -> End
 
 impl Service<'_> {
     /// Answers a bad head, which ends the connection.
-    #[tactic(auto, using(crate::proofs::TransferLemmas::kept))]
+    #[tactic(auto, using(crate::proofs::KeepLemmas::kept))]
     fn refuse<S: Station>(
         &self,
         station: &mut S,
@@ -86,15 +86,12 @@ impl Service<'_> {
             station.new)) }
         ensures keeps { Keeps (S.told station.old) (S.told station.new) (failing_on result) }
     {
-        let reading = station.now();
+        let date = station.now();
         let reply = match self.reply_to_bad(cause) {
             Ok(reply) => reply,
             Err(error) => return Err(error),
         };
-        let stamp = Stamp {
-            date: reading,
-            close: true,
-        };
+        let stamp = Stamp { date, close: true };
         match send_reply(station, &reply, &stamp, buffer) {
             Ok(()) => Ok(bad_end(count)),
             Err(_) => Ok(End::SendFault),
@@ -102,7 +99,7 @@ impl Service<'_> {
     }
 
     /// Answers the message whose good head stands at the front of the unread bytes.
-    #[tactic(auto, using(crate::proofs::TransferLemmas::kept))]
+    #[tactic(auto, using(crate::proofs::KeepLemmas::kept))]
     fn answer<S: Station>(
         &self,
         station: &mut S,
@@ -120,8 +117,7 @@ impl Service<'_> {
             (standing (count + 1) buffers.new.unread store.new) (S.told station.old) (S.told
             station.new) end) }
         ensures broken { IsTrue S.tells → OnErr result (BreaksOff self.now.config.now
-            (standing count buffers.old.unread store.old) (S.told station.old) (S.told station.new))
-            }
+            (standing count buffers.old.unread store.old) (S.told station.old) (S.told station.new)) }
         ensures below { result ≡ Ok None → count + 1 < MOST_MESSAGES }
         ensures keeps { Keeps (S.told station.old) (S.told station.new) (failing_in result) }
     {
@@ -156,7 +152,7 @@ impl Service<'_> {
     }
 
     /// Takes and answers one message more, or finds that there is none.
-    #[tactic(auto, using(crate::proofs::TransferLemmas::kept))]
+    #[tactic(auto, using(crate::proofs::KeepLemmas::kept))]
     pub fn one_message<S: Station>(
         &self,
         station: &mut S,
@@ -171,8 +167,7 @@ impl Service<'_> {
             (standing (count + 1) buffers.new.unread store.new) (S.told station.old) (S.told
             station.new) end) }
         ensures broken { IsTrue S.tells → OnErr result (BreaksOff self.now.config.now
-            (standing count buffers.old.unread store.old) (S.told station.old) (S.told station.new))
-            }
+            (standing count buffers.old.unread store.old) (S.told station.old) (S.told station.new)) }
         ensures below { result ≡ Ok None → count + 1 < MOST_MESSAGES }
         ensures keeps { Keeps (S.told station.old) (S.told station.new) (failing_in result) }
     {

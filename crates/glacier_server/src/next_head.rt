@@ -12,7 +12,7 @@ use glacier_http::{HeadRoom, HeadStep, read_head};
 
 /// Takes bytes until they begin with a head, or are found bad, or end. It answers `Need` where they
 /// ended before a head was whole.
-#[tactic(auto, using(crate::proofs::TransferLemmas::kept))]
+#[tactic(auto, using(crate::proofs::KeepLemmas::kept))]
 pub fn next_head<S: Station>(
     station: &mut S,
     room: &mut HeadRoom,

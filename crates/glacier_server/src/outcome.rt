@@ -47,11 +47,9 @@ impl Service<'_> {
         reading: Moment,
     ) -> Result<Reply, Memory>
         ensures reply { IfOk result (λ r. r ≡ (told_of
-            (rules_of self.now.config.now request.now.account) store.old request.now reading).reply)
-            }
+            (rules_of self.now.config.now request.now.account) store.old request.now reading).reply) }
         ensures store { OnOk result (store.new ≡ after_all store.old (told_of
-            (rules_of self.now.config.now request.now.account) store.old request.now reading).events)
-            }
+            (rules_of self.now.config.now request.now.account) store.old request.now reading).events) }
         ensures printable { IfOk result (IsPrintableIn MOST_HEAD_TEXT) }
         ensures err { OnErr result (store.new ≡ store.old) }
     {

@@ -74,7 +74,7 @@ impl Service<'_> {
 /// Serves so many connections, one after another, or all that come where they are fewer. It answers
 /// how many it served. A connection on which a call fails ends alone. The memory for a connection's
 /// buffers is taken once, before the first connection.
-#[tactic(auto, using(crate::proofs::ServingLemmas::on_then))]
+#[tactic(auto, using(crate::proofs::KeepLemmas::on_then))]
 pub fn serve<S: Station>(
     alloc: Global,
     station: &mut S,

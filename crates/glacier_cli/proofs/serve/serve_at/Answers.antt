@@ -1,11 +1,11 @@
 use Rattle.std.proofs.Common.{◌≡◌, ◌⊎◌, ◌++◌, ◌∷◌, [], IsTrue, rules, inr, ap, subst, sym, ◌∙◌}
 use Rattle.glacier_base.specs.Outside.{one_more}
 use Rattle.glacier_server.specs.declared.end.ServeFault.{ServeFault}
-use Rattle.glacier_server.specs.Serving.{Breaks}
+use Rattle.glacier_server.specs.Serving.{Broken}
 use Rattle.glacier_cli.specs.Program.{ListenEnds}
 use Rattle.glacier_cli.specs.StationUse.{ListensAt, station_use}
 use Rattle.glacier_cli.specs.declared.serve.TheConstants.{CONNECTIONS}
-use Rattle.glacier_cli.proofs.ListenLemmas.{none_came, breaks_at, serves_at}
+use Rattle.glacier_cli.proofs.ListenLemmas.{none_came, broken_at, serves_at}
 use Rattle.glacier_cli.proofs.serve.serve_at.Goals.{in-Ok, in-Err-Memory, in-Err-Accept}
 use Rattle.glacier_cli.proofs.serve.serve_at.Goals as goal
 
@@ -17,7 +17,7 @@ returns-then-is_err g c =
       search rules,
       λ t.
           let named : (new.listener.addresses ≡ old.listener.addresses)
-              ⊎ (new.listener.addresses ≡ old.listener.addresses ++ c.args.address.now ∷ []) = search rules in
+          ⊎ (new.listener.addresses ≡ old.listener.addresses ++ c.args.address.now ∷ []) = search rules in
           ((named, call.disk.folders), none_came call),
     )
 
@@ -30,10 +30,10 @@ returns g c =
     let call = c.listen.ensures.call in
     let kept = c.serve.ensures.kept in
     let named : IsTrue g.S.Disk.tells → mid.listener.addresses ≡ old.listener.addresses ++ c.args.address.now ∷ [] =
-        λ t. search rules in
+    λ t. search rules in
     let listens : IsTrue g.S.Disk.tells → ListensAt station c.args.address.now =
-        λ t. (kept.addresses ∙ named t, kept.folders ∙ call.disk.folders) in
-    let Broken : ServeFault → Type 0 = Breaks c.default_config.result mid new c.empty-store.result CONNECTIONS in
+    λ t. (kept.addresses ∙ named t, kept.folders ∙ call.disk.folders) in
+    let BrokenBy : ServeFault → Type 0 = Broken c.default_config.result mid new c.empty-store.result CONNECTIONS in
     let faults : mid.listener.faults ≡ old.listener.faults = search rules in
     elim c.match-serve.branch [
       | in-Ok w ↦ subst (ListenEnds station c.args.ring c.args.address.now) (sym w.result-is) (
@@ -48,12 +48,18 @@ returns g c =
       )
       | in-Err-Memory w ↦ subst (ListenEnds station c.args.ring c.args.address.now) (sym w.result-is) (
         (rw w.in-Err-Memory.field-0-is at w.in-Err-Memory.ensures.accepts) ∙ faults,
-        λ t. (listens t, breaks_at call c.default_config.ensures c.empty-store.ensures
-            (subst Broken w.in-Err-Memory.field-0-is (w.in-Err-Memory.ensures.broken t))),
+        λ t. (
+          listens t,
+          broken_at call c.default_config.ensures c.empty-store.ensures
+              (subst BrokenBy w.in-Err-Memory.field-0-is (w.in-Err-Memory.ensures.broken t)),
+        ),
       )
       | in-Err-Accept w ↦ subst (ListenEnds station c.args.ring c.args.address.now) (sym w.result-is) (
         (rw w.in-Err-Accept.field-0-is at w.in-Err-Accept.ensures.accepts) ∙ ap one_more faults,
-        λ t. ((inr (listens t).0, (listens t).1), breaks_at call c.default_config.ensures c.empty-store.ensures
-            (subst Broken w.in-Err-Accept.field-0-is (w.in-Err-Accept.ensures.broken t))),
+        λ t. (
+          (inr (listens t).0, (listens t).1),
+          broken_at call c.default_config.ensures c.empty-store.ensures
+              (subst BrokenBy w.in-Err-Accept.field-0-is (w.in-Err-Accept.ensures.broken t)),
+        ),
       )
     ]

@@ -5,7 +5,8 @@ use Rattle.glacier_server.proofs.body.take_rest.Given as goal
 abbrev pub invariant-loop-left : goal.invariant-loop-left
 invariant-loop-left g l = record {
   within : l.left ≤ l.fn.missing;
-  takes : IsTrue g.S.Disk.tells → TakesOf (g.S.Disk.told l.fn.station) (g.S.Disk.told l.station) l.fn.missing l.left nothing;
+  takes : IsTrue g.S.Disk.tells → TakesOf (g.S.Disk.told l.fn.station)
+      (g.S.Disk.told l.station) l.fn.missing l.left nothing;
   keeps : Keeps (g.S.Disk.told l.fn.station) (g.S.Disk.told l.station) nothing;
 }
 

@@ -6,7 +6,8 @@ use Rattle.glacier_server.proofs.next_head.next_head.Given as goal
 
 abbrev pub invariant-search : goal.invariant-search
 invariant-search g l = record {
-  takes : IsTrue g.S.Disk.tells → TakesBehind (g.S.Disk.told l.fn.station) (g.S.Disk.told l.station) l.fn.unread l.unread HasNoOpening nothing;
+  takes : IsTrue g.S.Disk.tells → TakesBehind (g.S.Disk.told l.fn.station)
+      (g.S.Disk.told l.station) l.fn.unread l.unread HasNoOpening nothing;
   keeps : Keeps (g.S.Disk.told l.fn.station) (g.S.Disk.told l.station) nothing;
 }
 

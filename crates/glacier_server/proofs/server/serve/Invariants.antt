@@ -5,7 +5,8 @@ use Rattle.glacier_server.proofs.server.serve.Given as goal
 abbrev pub invariant-connections : goal.invariant-connections
 invariant-connections g l = record {
   most : l.count ≤ l.fn.connections;
-  served : IsTrue g.S.Disk.tells → Serves l.fn.config (g.S.Disk.told l.fn.station) (g.S.Disk.told l.station) l.initial.store l.store l.count;
+  served : IsTrue g.S.Disk.tells → Serves l.fn.config (g.S.Disk.told l.fn.station)
+      (g.S.Disk.told l.station) l.initial.store l.store l.count;
   kept : ServesOn (g.S.Disk.told l.fn.station) (g.S.Disk.told l.station);
   accepts : (g.S.Disk.told l.station).listener.faults ≡ (g.S.Disk.told l.fn.station).listener.faults;
 }

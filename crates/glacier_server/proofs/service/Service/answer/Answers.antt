@@ -1,6 +1,5 @@
 use Rattle.std.proofs.Common.{rules, ◌≡◌, ◌≤◌, sym, subst, refl, ℕ, arith}
 use Rattle.std.specs.Option.{is_some}
-use Rattle.glacier_disk.specs.Told.{Told}
 use Rattle.glacier_server.specs.Exchange.{standing}
 use Rattle.glacier_server.proofs.ExtentLemmas.{extends_by, head_fits, good_of}
 use Rattle.glacier_server.proofs.MessageLemmas.{body_failed, body_cut, reply_unmade, reply_sent, reply_unsent}
@@ -20,35 +19,41 @@ returns-in-Err-clause-exchange g c t =
     let failed = c.in-Err.ensures.failed t in
     body_failed c.args.self.now.config.now (standing c.args.count c.args.buffers.now.unread c.args.store.now) c.args.buffers.now.head c.args.spans.now _ _ c.requires.good
     (extends_by _ _ _ _ _ c.count-length.ensures.same c.extent_of-extent.ensures.used c.extent_of-extent.ensures.left)
-    (λ state. reads state c.now-reading.result c.now-reading.ensures.call (c.now-reading.ensures.reading t)) failed.2 failed.1 _ refl
+    (λ state. reads state c.now-reading.result c.now-reading.ensures.call
+    (c.now-reading.ensures.reading t)) failed.2 failed.1 _ refl
 
 pub returns-then-left-gt0-clause-exchange : goal.returns-then-left-gt0-clause-exchange
 returns-then-left-gt0-clause-exchange g c t =
     body_cut c.args.self.now.config.now (standing c.args.count c.args.buffers.now.unread c.args.store.now) c.args.buffers.now.head c.args.spans.now _ _ c.requires.good
     (extends_by _ _ _ _ _ c.count-length.ensures.same c.extent_of-extent.ensures.used c.extent_of-extent.ensures.left)
-    (λ state. reads state c.now-reading.result c.now-reading.ensures.call (c.now-reading.ensures.reading t)) (c.in-Ok.ensures.takes t)
+    (λ state. reads state c.now-reading.result c.now-reading.ensures.call (c.now-reading.ensures.reading t))
+    (c.in-Ok.ensures.takes t)
     c.if-left-gt0.true (c.in-Ok.ensures.end t c.if-left-gt0.true) _ c.count-length.ensures.same _ refl
 
 pub returns-in-Err-reply_to_message-clause-broken : goal.returns-in-Err-reply_to_message-clause-broken
 returns-in-Err-reply_to_message-clause-broken g c t =
     reply_unmade c.args.self.now.config.now (standing c.args.count c.args.buffers.now.unread c.args.store.now) c.args.buffers.now.head c.args.spans.now _ _ c.requires.good
     (extends_by _ _ _ _ _ c.count-length.ensures.same c.extent_of-extent.ensures.used c.extent_of-extent.ensures.left)
-    (λ state. reads state c.now-reading.result c.now-reading.ensures.call (c.now-reading.ensures.reading t)) (c.in-Ok.ensures.takes t) (omega (arith, c.if-left-gt0.false))
+    (λ state. reads state c.now-reading.result c.now-reading.ensures.call (c.now-reading.ensures.reading t))
+    (c.in-Ok.ensures.takes t) (omega (arith, c.if-left-gt0.false))
 
 pub returns-in-Ok-send_reply-clause-exchange : goal.returns-in-Ok-send_reply-clause-exchange
 returns-in-Ok-send_reply-clause-exchange g c t =
     let flag : c.is_some.result ≡ is_some c.good_end-end.result = search rules in
     reply_sent c.args.self.now.config.now (standing c.args.count c.args.buffers.now.unread c.args.store.now) c.args.buffers.now.head c.args.spans.now _ _ c.requires.good
     (extends_by _ _ _ _ _ c.count-length.ensures.same c.extent_of-extent.ensures.used c.extent_of-extent.ensures.left)
-    (λ state. reads state c.now-reading.result c.now-reading.ensures.call (c.now-reading.ensures.reading t)) (c.in-Ok.ensures.takes t) (omega (arith, c.if-left-gt0.false))
+    (λ state. reads state c.now-reading.result c.now-reading.ensures.call (c.now-reading.ensures.reading t))
+    (c.in-Ok.ensures.takes t) (omega (arith, c.if-left-gt0.false))
     c.good_end-end.result c.good_end-end.ensures.end c.good_end-end.ensures.of_none c.is_some.result flag c.in-Ok-reply_to_message.reply c.in-Ok-reply_to_message.ensures.reply
-    c.reply_to_message.new.store c.in-Ok-reply_to_message.ensures.store (c.in-Ok-send_reply.ensures.sent t) _ refl c.skip.ensures
+    c.reply_to_message.new.store c.in-Ok-reply_to_message.ensures.store
+    (c.in-Ok-send_reply.ensures.sent t) _ refl c.skip.ensures
 
 pub returns-clause-exchange : goal.returns-clause-exchange
 returns-clause-exchange g c t =
     let flag : c.is_some.result ≡ is_some c.good_end-end.result = search rules in
     reply_unsent c.args.self.now.config.now (standing c.args.count c.args.buffers.now.unread c.args.store.now) c.args.buffers.now.head c.args.spans.now _ _ c.requires.good
     (extends_by _ _ _ _ _ c.count-length.ensures.same c.extent_of-extent.ensures.used c.extent_of-extent.ensures.left)
-    (λ state. reads state c.now-reading.result c.now-reading.ensures.call (c.now-reading.ensures.reading t)) (c.in-Ok.ensures.takes t) (omega (arith, c.if-left-gt0.false))
+    (λ state. reads state c.now-reading.result c.now-reading.ensures.call (c.now-reading.ensures.reading t))
+    (c.in-Ok.ensures.takes t) (omega (arith, c.if-left-gt0.false))
     c.good_end-end.result c.good_end-end.ensures.end c.good_end-end.ensures.of_none c.is_some.result flag c.in-Ok-reply_to_message.reply c.in-Ok-reply_to_message.ensures.reply
     c.reply_to_message.new.store c.in-Ok-reply_to_message.ensures.store (c.in-Err-send_reply.ensures.failed t) _ refl

@@ -15,7 +15,8 @@ pub returns-in-Ok-clause-exchange : goal.returns-in-Ok-clause-exchange
 returns-in-Ok-clause-exchange g c t = exchanges_behind (c.in-Ok-Head.ensures.takes t) (c.in-Ok.ensures.exchange t)
 
 pub returns-in-Err-answer-clause-broken : goal.returns-in-Err-answer-clause-broken
-returns-in-Err-answer-clause-broken g c t = breaks_behind (c.in-Ok-Head.ensures.takes t) (c.in-Err-answer.ensures.broken t)
+returns-in-Err-answer-clause-broken g c t = breaks_behind (c.in-Ok-Head.ensures.takes t)
+    (c.in-Err-answer.ensures.broken t)
 
 pub returns-in-Ok-refuse-clause-exchange : goal.returns-in-Ok-refuse-clause-exchange
 returns-in-Ok-refuse-clause-exchange g c t =

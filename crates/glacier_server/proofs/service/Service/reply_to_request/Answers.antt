@@ -9,6 +9,8 @@ use Rattle.glacier_server.proofs.service.Service.reply_to_request.Goals as goal
 pub returns-clause-printable : goal.returns-clause-printable
 returns-clause-printable c =
     let before = account_in c.args.store.now c.args.request.now.account in
-    let fits = step_printable c.rules-rules.result (moment_of before c.args.reading) c.args.request.now.action before c.names_are_short.ensures in
-    IfOk-weaker c.apply.result (λ (r : Reply). r ≡ (told_of c.rules-rules.result c.args.store.now c.args.request.now c.args.reading).reply) (IsPrintableIn 1024)
+    let fits = step_printable c.rules-rules.result
+    (moment_of before c.args.reading) c.args.request.now.action before c.names_are_short.ensures in
+    IfOk-weaker c.apply.result (λ (r : Reply). r ≡
+    (told_of c.rules-rules.result c.args.store.now c.args.request.now c.args.reading).reply) (IsPrintableIn 1024)
     (λ r is. subst (IsPrintableIn 1024) (sym is) fits) c.apply.ensures.reply

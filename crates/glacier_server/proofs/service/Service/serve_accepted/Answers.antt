@@ -1,4 +1,4 @@
-use Rattle.std.proofs.Common.{◌≡◌, ◌∙◌, ◌+◌, ap, sym, subst}
+use Rattle.std.proofs.Common.{◌∙◌, ◌+◌, ap, sym, subst}
 use Rattle.glacier_disk.specs.Told.{Listener}
 use Rattle.glacier_server.specs.declared.end.ServeFault.{ServeFault}
 use Rattle.glacier_server.specs.Serving.{Breaks}
@@ -9,12 +9,16 @@ pub returns-in-Ok-clause-served : goal.returns-in-Ok-clause-served
 returns-in-Ok-clause-served g c t old opens =
     let last = (g.met.S.Disk.lawful t c.serve_open.new.station).connected_last c.serve_open.ensures.keeps.connected in
     let same = c.hang_up.ensures.call.listener ∙ c.serve_open.ensures.keeps.listener in
-    serves_one (g.S.Disk.told old) (g.S.Disk.told c.args.station.now) (g.S.Disk.told c.serve_open.new.station) (g.S.Disk.told c.hang_up.new.self)
-    opens last c.hang_up.ensures.call (c.in-Ok.ensures.served t) (opens.fewer ∙ ap (λ (l : Listener). 1 + l.to_come) (sym same))
+    serves_one (g.S.Disk.told old) (g.S.Disk.told c.args.station.now) (g.S.Disk.told c.serve_open.new.station)
+    (g.S.Disk.told c.hang_up.new.self)
+    opens last c.hang_up.ensures.call (c.in-Ok.ensures.served t) (opens.fewer
+    ∙ ap (λ (l : Listener). 1 + l.to_come) (sym same))
 
 pub returns-in-Err-clause-broken : goal.returns-in-Err-clause-broken
 returns-in-Err-clause-broken g c t old opens =
     let last = (g.met.S.Disk.lawful t c.serve_open.new.station).connected_last c.serve_open.ensures.keeps.connected in
-    subst (λ (f : ServeFault). Breaks c.args.self.now.config.now (g.S.Disk.told old) (g.S.Disk.told c.hang_up-in-Err.new.self) c.args.store 1 f) (sym c.in-Err.ensures.fault)
-    (breaks_one (g.S.Disk.told old) (g.S.Disk.told c.args.station.now) (g.S.Disk.told c.serve_open.new.station) (g.S.Disk.told c.hang_up-in-Err.new.self)
+    subst (λ (f : ServeFault). Breaks c.args.self.now.config.now (g.S.Disk.told old)
+    (g.S.Disk.told c.hang_up-in-Err.new.self) c.args.store 1 f) (sym c.in-Err.ensures.fault)
+    (breaks_one (g.S.Disk.told old) (g.S.Disk.told c.args.station.now) (g.S.Disk.told c.serve_open.new.station)
+    (g.S.Disk.told c.hang_up-in-Err.new.self)
     opens last c.hang_up-in-Err.ensures.call (c.in-Err.ensures.broken t))

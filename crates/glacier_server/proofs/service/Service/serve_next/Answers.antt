@@ -7,14 +7,16 @@ returns-in-Ok-clause-served g c t =
     let ok = ap (λ (b : Bool). Ok b) c.in-Ok-true.field-0-test in
     let came = c.in-Ok-true.ensures.accepts t in
     let next = came.next ok in
-    c.in-Ok.ensures.served t c.args.station.now (just_accepted c.args.store c.accept.ensures.call next.0 next.1 (omega (arith, came.fewer ok)))
+    c.in-Ok.ensures.served t c.args.station.now (just_accepted c.args.store c.accept.ensures.call next.0 next.1
+    (omega (arith, came.fewer ok)))
 
 pub returns-in-Err-serve_accepted-clause-broken : goal.returns-in-Err-serve_accepted-clause-broken
 returns-in-Err-serve_accepted-clause-broken g c t =
     let ok = ap (λ (b : Bool). Ok b) c.in-Ok-true.field-0-test in
     let came = c.in-Ok-true.ensures.accepts t in
     let next = came.next ok in
-    c.in-Err-serve_accepted.ensures.broken t c.args.station.now (just_accepted c.args.store c.accept.ensures.call next.0 next.1 (omega (arith, came.fewer ok)))
+    c.in-Err-serve_accepted.ensures.broken t c.args.station.now
+    (just_accepted c.args.store c.accept.ensures.call next.0 next.1 (omega (arith, came.fewer ok)))
 
 pub returns-in-Ok-false-clause-served : goal.returns-in-Ok-false-clause-served
 returns-in-Ok-false-clause-served g c t =

@@ -9,7 +9,8 @@ abbrev pub invariant-messages : goal.invariant-messages
 invariant-messages g l = record {
   below : l.count < MOST_MESSAGES;
   so_far : IsTrue g.S.Disk.tells →
-      SoFarLast l.self.config.now (g.S.Disk.told l.fn.station) (g.S.Disk.told l.station) l.initial.store (standing l.count l.buffers.unread l.store);
+      SoFarLast l.self.config.now (g.S.Disk.told l.fn.station) (g.S.Disk.told l.station) l.initial.store
+      (standing l.count l.buffers.unread l.store);
   keeps : Keeps (g.S.Disk.told l.fn.station) (g.S.Disk.told l.station) nothing;
 }
 

@@ -1,0 +1,21 @@
+//! Tables of what the crates answer: calls, and values from outside that they must give.
+#![tactic(auto)]
+
+#[cfg(test)]
+mod base_tests;
+#[cfg(test)]
+mod disk_tests;
+#[cfg(test)]
+mod hmac_tests;
+#[cfg(test)]
+mod host_disk_tests;
+#[cfg(test)]
+mod map_tests;
+#[cfg(test)]
+mod outside_tests;
+#[cfg(test)]
+mod plans;
+#[cfg(test)]
+mod stop_tests;
+#[cfg(test)]
+mod treehash_tests;

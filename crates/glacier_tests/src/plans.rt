@@ -1,0 +1,45 @@
+// Plans of a station in memory.
+use glacier_base::{List, Moment, Text};
+use glacier_disk::MemPlan;
+use std::alloc::Global;
+
+/// What a station is to hold, and what is to come to it. The areas but Left are empty.
+#[derive(Clone, Copy)]
+pub struct Plan<'a> {
+    pub left: &'a str,
+    pub inputs: &'a [&'a [u8]],
+    pub pieces: &'a [usize],
+    pub seconds: &'a [u64],
+    pub faults: &'a [u64],
+}
+
+fn texts(alloc: Global, inputs: &[&[u8]]) -> Option<List<Text>> {
+    let mut texts = List::new(alloc);
+    for input in inputs {
+        texts.push(Text::of(alloc, input).ok()?).ok()?;
+    }
+    Some(texts)
+}
+
+fn moments(alloc: Global, seconds: &[u64]) -> Option<List<Moment>> {
+    let mut moments = List::new(alloc);
+    for second in seconds {
+        moments.push(Moment::new(*second)?).ok()?;
+    }
+    Some(moments)
+}
+
+pub fn mem_plan(alloc: Global, plan: &Plan) -> Option<MemPlan> {
+    let left = Text::of(alloc, plan.left.as_bytes()).ok()?;
+    let connections = texts(alloc, plan.inputs)?;
+    let pieces = List::from_vec(plan.pieces.to_vec(alloc).ok()?);
+    let moments = moments(alloc, plan.seconds)?;
+    let faults = List::from_vec(plan.faults.to_vec(alloc).ok()?);
+    Some(MemPlan {
+        areas: [Text::new(alloc), left, Text::new(alloc), Text::new(alloc)],
+        connections,
+        pieces,
+        moments,
+        faults,
+    })
+}
