@@ -1,12 +1,12 @@
 -- A basic text gives back its moment.
-use Rattle.std.proofs.Common.{◌≡◌, ◌∙◌, ℕ, zero, suc, ◌+◌, ◌-◌, ◌*◌, ◌/◌, ◌%◌, ◌<◌, ◌≤◌, ◌≢◌, Bool, true, false, cond, List, length, Option, Some, None, IfSome, IfNone, inl, inr, arith, refl, sym, ap, subst}
+use Rattle.std.proofs.Common.{◌≡◌, ◌∙◌, ℕ, zero, suc, ◌+◌, ◌-◌, ◌/◌, ◌%◌, ◌<◌, ◌≤◌, ◌≢◌, Bool, true, false, cond, List, length, Option, Some, None, IfSome, IfNone, inl, inr, arith, refl, sym, ap, subst}
 use Rattle.std.specs.Prelude.{◌&&◌, bytes_eq, nat_le}
 use Rattle.std.specs.Cmp.Lexicographic.{nat_list_eq_equiv}
 use Rattle.std.specs.Str.Parse.{digits_value}
 use Rattle.std.proofs.lemmas.Bool.{cases_lt, and_parts}
 use Rattle.std.proofs.lemmas.Bool.Decides.{nat_tests}
 use Rattle.std.proofs.lemmas.Slice.Eq.{bytes_eq-Decides}
-use Rattle.httpdate.specs.Calendar.{days_in_year, days_in_month, days_from_civil, seconds_from_civil}
+use Rattle.httpdate.specs.Calendar.{days_in_year, days_in_month, seconds_from_civil}
 use Rattle.httpdate.specs.Text.{two_digits, four_digits}
 use Rattle.glacier_base.specs.Calendar.{civil_of, year_from, month_from}
 use Rattle.glacier_base.specs.Civil.{IsSmall}

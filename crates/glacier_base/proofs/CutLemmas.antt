@@ -1,5 +1,5 @@
 -- Cutting at a separator.
-use Rattle.std.proofs.Common.{◌≡◌, ℕ, Bool, true, false, cond, eqb, List, [], ◌∷◌, ◌++◌, Option, Some, None, refl, ap, sym, ◌∙◌, append_assoc}
+use Rattle.std.proofs.Common.{◌≡◌, ℕ, Bool, true, false, cond, eqb, List, [], ◌∷◌, ◌++◌, Option, Some, None, refl, ap, sym, ◌∙◌}
 use Rattle.std.specs.Prelude.{option_map}
 use Rattle.std.specs.List.{slice_split, onto_first}
 use Rattle.glacier_base.specs.Cuts.{cut_at, begun, is_byte}
@@ -7,10 +7,6 @@ use Rattle.glacier_base.specs.Cuts.{cut_at, begun, is_byte}
 -- the front before the first of the parts
 abbrev pub behind : List ℕ → Option (List ℕ × List ℕ) → Option (List ℕ × List ℕ)
 behind front cut = option_map (λ parts. (front ++ parts.0, parts.1)) cut
-
-behind_begun : (front : List ℕ) (b : ℕ) (cut : Option (List ℕ × List ℕ)) → behind front (option_map (begun b) cut) ≡ behind (front ++ b ∷ []) cut
-behind_begun front b None = refl
-behind_begun front b (Some parts) = ap (λ l. Some (l, parts.1)) (sym (append_assoc front (b ∷ []) parts.0))
 
 -- pieces where nothing is cut off
 pub split_uncut : (separator : ℕ) (bytes : List ℕ) → cut_at separator bytes ≡ None → slice_split (is_byte separator) bytes ≡ bytes ∷ []

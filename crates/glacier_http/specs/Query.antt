@@ -1,5 +1,5 @@
 -- The pairs of a query.
-use Rattle.std.specs.Prelude.{ℕ, Bool, not, List, [], map, filter, unwrap_or}
+use Rattle.std.specs.Prelude.{ℕ, not, List, [], map, filter, unwrap_or}
 use Rattle.std.specs.List.{slice_split}
 use Rattle.percent_encoding.specs.Percent.{percent_decode}
 use Rattle.glacier_base.specs.Cuts.{cut_at, is_byte}

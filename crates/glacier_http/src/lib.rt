@@ -17,13 +17,9 @@ mod put;
 mod query;
 mod reply;
 pub mod reply_laws;
-#[cfg(test)]
-mod reply_tests;
 mod room;
 mod span;
 mod target;
-#[cfg(test)]
-mod tests;
 mod tokens;
 
 pub use bad_head::BadHead;
@@ -31,7 +27,7 @@ pub use expectation::interim;
 pub use head::{Find, Head};
 pub use head_reader::read_head;
 pub use head_spans::{HeadSpans, HeadStep};
-pub use limits::{MOST_FIELDS, MOST_HEAD, MOST_LINES, MOST_MESSAGES};
+pub use limits::{MOST_FIELDS, MOST_HEAD, MOST_LINES, MOST_MESSAGES, MOST_PLAIN_HEAD};
 pub use numbers::number;
 pub use printing::{write_head, write_reply};
 pub use query::{Pair, query_pairs};

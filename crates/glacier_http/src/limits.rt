@@ -1,4 +1,4 @@
-// The limits of heads and of connections.
+// The limits of heads, of connections and of replies.
 /// How many bytes a head may have: so many are looked at.
 pub const MOST_HEAD: usize = 16_384;
 
@@ -11,3 +11,6 @@ pub const MOST_LINES: usize = 5_462;
 
 /// How many messages are answered on a connection.
 pub const MOST_MESSAGES: u64 = 1000;
+
+/// How many bytes the head of a reply may have, beside the lines of its own fields.
+pub const MOST_PLAIN_HEAD: usize = 512;

@@ -1,5 +1,9 @@
+pub mod AsciiTexts
+pub mod EventLemmas
 pub mod Floats
-pub mod IsoAscii
+pub mod HeaderLemmas
 pub mod NameLemmas
 pub mod PathLemmas
+pub mod RefusalLemmas
+pub mod RequestLemmas
 pub mod RouteLemmas

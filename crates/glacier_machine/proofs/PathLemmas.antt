@@ -29,11 +29,13 @@ pieces_lack (b ∷ path) = go (eqb b 47) refl (pieces path) (pieces_lack path)
     go false is [] lack = and_from (lacks 47 (b ∷ [])) true (and_from (not (eqb b 47)) true (ap not is) refl) refl
     go false is (p ∷ ps) lack =
         let parts = and_parts (lacks 47 p) (list_all (lacks 47) ps) lack in
-        and_from (lacks 47 (b ∷ p)) (list_all (lacks 47) ps) (and_from (not (eqb b 47)) (lacks 47 p) (ap not is) parts.0) parts.1
+        and_from (lacks 47 (b ∷ p)) (list_all (lacks 47) ps)
+        (and_from (not (eqb b 47)) (lacks 47 p) (ap not is) parts.0) parts.1
 
 -- the path of a vault is these pieces, joined by slashes
 location_joined : (word name : List ℕ) → location word name ≡ join_with_byte 47 ([] ∷ word ∷ codes "vaults" ∷ name ∷ [])
-location_joined word name = append_assoc (codes "/" ++ word) (codes "/vaults/") name ∙ append_assoc (codes "/") word (codes "/vaults/" ++ name)
+location_joined word name = append_assoc (codes "/" ++ word) (codes "/vaults/") name
+    ∙ append_assoc (codes "/") word (codes "/vaults/" ++ name)
 
 -- and is cut into them
 pub location_pieces : (word name : List ℕ) → lacks 47 word ≡ true → lacks 47 name ≡ true
@@ -44,7 +46,8 @@ location_pieces word name w n =
     (and_from (lacks 47 word) _ w (and_from (lacks 47 name) true n refl))
 
 -- the pieces of which a vault's path is made
-pub path_pieces : (ps : List (List ℕ)) (path : List ℕ × List ℕ) → vault_path ps ≡ Some path → ps ≡ [] ∷ path.0 ∷ codes "vaults" ∷ path.1 ∷ []
+pub path_pieces : (ps : List (List ℕ)) (path : List ℕ × List ℕ) → vault_path ps ≡ Some path
+    → ps ≡ [] ∷ path.0 ∷ codes "vaults" ∷ path.1 ∷ []
 path_pieces [] path is = cc
 path_pieces ((b ∷ first) ∷ ps) path is = cc
 path_pieces ([] ∷ []) path is = cc

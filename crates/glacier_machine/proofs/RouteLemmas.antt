@@ -49,7 +49,8 @@ named_word word account is = go (bytes_eq word (codes "-")) refl (is_account wor
         subst (IsAccountWord word) same (refl, r)
 
 -- the operation that is asked for is the method's, on the vault of the name
-op_asked : (method name : List ℕ) (op : Op) → IsOp method name op → (kind : VaultOp) × (vault_op method ≡ Some kind) × (op_on kind name ≡ op)
+op_asked : (method name : List ℕ) (op : Op) → IsOp method name op
+    → (kind : VaultOp) × (vault_op method ≡ Some kind) × (op_on kind name ≡ op)
 op_asked method name (CreateVault vault) is = (Create, ap vault_op is.0, ap CreateVault (sym is.1))
 op_asked method name (DescribeVault vault) is = (Describe, ap vault_op is.0, ap DescribeVault (sym is.1))
 
@@ -80,13 +81,15 @@ module _ (head : HeadText) where
       ap (λ ps. path_route head.method (vault_path ps)) cut
       ∙ ap (account_route head.method name) (word_names word route.account asks.path.1)
       ∙ ap (op_route route.account name) op.1
-      ∙ ap (λ o. cond (is_vault_name name) (found.Route (record { account = route.account; op = o })) found.BadName) op.2
+      ∙ ap (λ o. cond (is_vault_name name)
+      (found.Route (record { account = route.account; op = o })) found.BadName) op.2
 
   -- each head asks for something, or has no route
   asked : (route_of head ≡ found.NoRoute) ⊎ ((route : Route) × (name : List ℕ) × AsksFor head route name)
   asked = by_path (vault_path (pieces head.path)) refl
     where
-      by_op : (path : List ℕ × List ℕ) → vault_path (pieces head.path) ≡ Some path → (account : Option (List ℕ)) → account_of path.0 ≡ Some account
+      by_op : (path : List ℕ × List ℕ) → vault_path (pieces head.path) ≡ Some path → (account : Option (List ℕ))
+          → account_of path.0 ≡ Some account
           → (o : Option VaultOp) → vault_op head.method ≡ o
           → (op_route account path.1 o ≡ found.NoRoute) ⊎ ((route : Route) × (name : List ℕ) × AsksFor head route name)
       by_op path p account a None o = inl refl
@@ -102,17 +105,21 @@ module _ (head : HeadText) where
             },
           )
 
-      by_account : (path : List ℕ × List ℕ) → vault_path (pieces head.path) ≡ Some path → (account : Option (Option (List ℕ))) → account_of path.0 ≡ account
-          → (account_route head.method path.1 account ≡ found.NoRoute) ⊎ ((route : Route) × (name : List ℕ) × AsksFor head route name)
+      by_account : (path : List ℕ × List ℕ) → vault_path (pieces head.path) ≡ Some path
+          → (account : Option (Option (List ℕ))) → account_of path.0 ≡ account
+          → (account_route head.method path.1 account ≡ found.NoRoute) ⊎
+          ((route : Route) × (name : List ℕ) × AsksFor head route name)
       by_account path p None a = inl refl
       by_account path p (Some account) a = by_op path p account a (vault_op head.method) refl
 
       by_path : (path : Option (List ℕ × List ℕ)) → vault_path (pieces head.path) ≡ path
-          → (path_route head.method path ≡ found.NoRoute) ⊎ ((route : Route) × (name : List ℕ) × AsksFor head route name)
+          → (path_route head.method path ≡ found.NoRoute) ⊎
+          ((route : Route) × (name : List ℕ) × AsksFor head route name)
       by_path None p = inl refl
       by_path (Some path) p = by_account path p (account_of path.0) refl
 
-  pub route_is_asked : (route : Route) → (route_of head ≡ found.Route route) ↔ ((name : List ℕ) × AsksFor head route name × IsTrue (is_vault_name name))
+  pub route_is_asked : (route : Route)
+      → (route_of head ≡ found.Route route) ↔ ((name : List ℕ) × AsksFor head route name × IsTrue (is_vault_name name))
   route_is_asked route = (there asked, back)
     where
       there : (route_of head ≡ found.NoRoute) ⊎ ((r : Route) × (name : List ℕ) × AsksFor head r name)
@@ -128,11 +135,13 @@ module _ (head : HeadText) where
       back : (name : List ℕ) × AsksFor head route name × IsTrue (is_vault_name name) → route_of head ≡ found.Route route
       back asks = asked_step route asks.0 asks.1 ∙ ap (λ t. cond t (found.Route route) found.BadName) asks.2
 
-  pub bad_name_is_asked : (route_of head ≡ found.BadName) ↔ ((route : Route) × (name : List ℕ) × AsksFor head route name × (¬ IsTrue (is_vault_name name)))
+  pub bad_name_is_asked : (route_of head ≡ found.BadName) ↔
+      ((route : Route) × (name : List ℕ) × AsksFor head route name × (¬ IsTrue (is_vault_name name)))
   bad_name_is_asked = (there asked, back)
     where
       there : (route_of head ≡ found.NoRoute) ⊎ ((r : Route) × (name : List ℕ) × AsksFor head r name)
-          → route_of head ≡ found.BadName → (route : Route) × (name : List ℕ) × AsksFor head route name × (¬ IsTrue (is_vault_name name))
+          → route_of head ≡ found.BadName
+          → (route : Route) × (name : List ℕ) × AsksFor head route name × (¬ IsTrue (is_vault_name name))
       there (inl none) is = let other : found.NoRoute ≡ found.BadName = sym none ∙ is in cc
       there (inr asks) is = (
         asks.0,
@@ -140,17 +149,20 @@ module _ (head : HeadText) where
         asks.2,
         λ t.
             let other : found.Route asks.0 ≡ found.BadName =
-            sym (ap (λ t. cond t (found.Route asks.0) found.BadName) t) ∙ sym (asked_step asks.0 asks.1 asks.2) ∙ is in cc,
+            sym (ap (λ t. cond t (found.Route asks.0) found.BadName) t) ∙ sym (asked_step asks.0 asks.1 asks.2)
+            ∙ is in cc,
       )
 
-      back : (route : Route) × (name : List ℕ) × AsksFor head route name × (¬ IsTrue (is_vault_name name)) → route_of head ≡ found.BadName
+      back : (route : Route) × (name : List ℕ) × AsksFor head route name × (¬ IsTrue (is_vault_name name))
+          → route_of head ≡ found.BadName
       back asks = asked_step asks.0 asks.1 asks.2 ∙ go (is_vault_name asks.1) asks.3
         where
           go : (t : Bool) → (¬ IsTrue t) → cond t (found.Route asks.0) found.BadName ≡ found.BadName
           go true n = absurd (n refl)
           go false n = refl
 
-  pub no_route_is_asked : (route_of head ≡ found.NoRoute) ↔ ((route : Route) (name : List ℕ) → ¬ (AsksFor head route name))
+  pub no_route_is_asked : (route_of head ≡ found.NoRoute) ↔
+      ((route : Route) (name : List ℕ) → ¬ (AsksFor head route name))
   no_route_is_asked = (there, λ none. back none asked)
     where
       there : route_of head ≡ found.NoRoute → (route : Route) (name : List ℕ) → AsksFor head route name → ⊥
@@ -161,6 +173,7 @@ module _ (head : HeadText) where
           go false s = cc
 
       back : ((route : Route) (name : List ℕ) → ¬ (AsksFor head route name))
-          → (route_of head ≡ found.NoRoute) ⊎ ((route : Route) × (name : List ℕ) × AsksFor head route name) → route_of head ≡ found.NoRoute
+          → (route_of head ≡ found.NoRoute) ⊎ ((route : Route) × (name : List ℕ) × AsksFor head route name)
+          → route_of head ≡ found.NoRoute
       back none (inl is) = is
       back none (inr asks) = absurd (none asks.0 asks.1 asks.2)

@@ -1,5 +1,5 @@
 -- One message, and a run over messages and readings of the clock.
-use Rattle.std.specs.Prelude.{ℕ, List, [], ◌∷◌, ◌++◌, Option, Some, None, Result, Ok, Err, unwrap_or, length, max}
+use Rattle.std.specs.Prelude.{ℕ, List, [], ◌∷◌, ◌++◌, Option, Some, None, Result, Ok, Err, unwrap_or, max}
 use Rattle.std.specs.Cmp.Lexicographic.{slice_cmp}
 use Rattle.std.specs.FinMap as map
 use Rattle.std.specs.Ordering.{nat_cmp}
@@ -16,7 +16,7 @@ use Rattle.glacier_machine.specs.declared.config.Config.{Config}
 use Rattle.glacier_machine.specs.AccountSteps.{Step, step_of, after_event}
 use Rattle.glacier_machine.specs.Refusals.{head_refusal}
 use Rattle.glacier_machine.specs.Replies.{refused}
-use Rattle.glacier_machine.specs.Requests.{request_in}
+use Rattle.glacier_machine.specs.SignedRequests.{request_in}
 
 -- the state of the service: each account that was ever changed
 abbrev pub Accounts : Type 0
@@ -68,7 +68,8 @@ moment_of before reading = max before.last reading
 -- the outcome of a request where the account's state is this
 abbrev pub action_outcome : Rules → AccountState → Request → ℕ → Outcome
 action_outcome rules before request reading =
-    step_outcome request.account (moment_of before reading) (step_of rules (moment_of before reading) request.action before)
+    step_outcome request.account (moment_of before reading)
+    (step_of rules (moment_of before reading) request.action before)
 
 -- what holds for the requests of an account
 abbrev pub rules_of : Config → List ℕ → Rules
@@ -83,7 +84,7 @@ request_outcome config accounts (Err refusal) reading = refusal_outcome refusal
 -- the outcome of one message, at a reading of the clock
 abbrev pub one : Config → Accounts → Message → ℕ → Outcome
 one config accounts (good head body) reading =
-    request_outcome config accounts (request_in (text_of head) (length body)) reading
+    request_outcome config accounts (request_in config (text_of head) body reading) reading
 one config accounts (bad cause) reading = refusal_outcome (head_refusal cause)
 
 -- the outcomes of messages in order, each at its own reading; one without a reading isn't run

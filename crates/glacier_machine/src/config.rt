@@ -3,13 +3,16 @@ ghost use Rattle.std.specs.Prelude.{◌≡◌};
 ghost use Rattle.glacier_machine.specs.Outcomes.{rules_of};
 
 use glacier_base::{Account, Region};
+use glacier_sigv4::KeyRing;
 use glacier_vault::Rules;
 
 /// What a service is told when it starts.
-#[derive(Clone, Copy)]
+#[derive(Drop)]
 pub struct Config {
-    /// The region in the names of vaults.
+    /// The region in the names of vaults and in the scopes of signatures.
     pub region: Region,
+    /// The accounts that are served, with their keys.
+    pub ring: KeyRing,
     /// How many seconds a retrieval job takes, by its tier: Expedited, Standard and Bulk.
     pub delays: [u32; 3],
 }

@@ -1,11 +1,22 @@
 // Laws of the definitions, which no code calls.
-ghost use Rattle.std.specs.Prelude.{◌≡◌, ◌↔◌, ℕ, List, IsTrue};
+ghost use Rattle.std.specs.Prelude.{◌≡◌, ◌↔◌, ℕ, List, All, IsTrue};
 ghost use Rattle.glacier_base.specs.Names.{is_vault_name};
 ghost use Rattle.glacier_http.specs.View.{HeadText};
+ghost use Rattle.glacier_http.specs.Messages.{Message};
+ghost use Rattle.glacier_machine.specs.Outcomes.{Accounts, one};
 ghost use Rattle.glacier_machine.specs.Paths.{AsksFor};
 ghost use Rattle.glacier_machine.specs.Routes.{route_of};
+ghost use Rattle.glacier_machine.specs.Verified.{IsSignedBy};
+ghost use Rattle.glacier_machine.specs.declared.config.Config.{Config as ServiceConfig};
 ghost use Rattle.glacier_machine.specs.declared.routes.Route.{Route as HeadRoute};
 ghost use Rattle.glacier_machine.specs.declared.routes.RouteStep.TheVariants as found;
+
+/// Each event of a message is on the account that signed it: a message that isn't verified has none.
+pub fn events_are_signed()
+    ensures { (config : ServiceConfig) (accounts : Accounts) (message : Message) (reading : ℕ)
+        → All (λ event. IsSignedBy config message reading event.account)
+        (one config accounts message reading).events }
+{}
 
 /// A head has exactly the route that its method and path ask for. It is BadName exactly where they
 /// ask for one on a vault whose name breaks the rule of names, and NoRoute where they ask for none.

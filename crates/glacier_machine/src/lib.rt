@@ -5,6 +5,7 @@ mod action;
 mod ascii;
 mod bodies;
 mod config;
+mod content_hash;
 pub mod laws;
 mod objects;
 mod path;
@@ -13,14 +14,15 @@ mod replies;
 mod requests;
 mod routes;
 mod routing;
+mod signed_requests;
 mod steps;
-#[cfg(test)]
-mod tests;
 
 pub use action::{Action, Answer, Request};
 pub use config::Config;
+pub use content_hash::MOST_BODY;
 pub use refusals::{bad_head_refusal, refusal_reply};
-pub use requests::{MOST_BODY, read_request, request_of};
+pub use requests::request_of;
 pub use routes::{Op, Route, RouteStep};
 pub use routing::route;
-pub use steps::step;
+pub use signed_requests::read_request;
+pub use steps::{admit, step};

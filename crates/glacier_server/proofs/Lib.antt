@@ -1,6 +1,7 @@
 mod ActLemmas
 mod AllSentLemmas
 mod AnswerLemmas
+mod BodyLemmas
 mod CommitLemmas
 mod ConnectionLemmas
 mod CutLemmas

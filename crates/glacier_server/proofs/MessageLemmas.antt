@@ -12,6 +12,7 @@ use Rattle.glacier_http.specs.Step.{IsStep}
 use Rattle.glacier_http.specs.Messages.{Message, good as Good, cut, end_of_rest}
 use Rattle.glacier_machine.specs.declared.config.Config.{Config}
 use Rattle.glacier_machine.specs.Outcomes.{one}
+use Rattle.glacier_machine.specs.SignedRequests.{IsKept}
 use Rattle.glacier_server.specs.Acts.{Act}
 use Rattle.glacier_server.specs.declared.end.End.{End}
 use Rattle.glacier_server.specs.declared.end.End.TheVariants.{Cut, ReadFault, SendFault}
@@ -101,15 +102,17 @@ module _ (config : Config) (from : Standing) (headers : List HeaderSpan) (spans 
       message = Good (h config from headers spans used left r is extends)
           (body config from headers spans used left r is extends takes.got)
 
-      at_message : (holds : Message → Type 0) → AtFront from.unread spans holds → holds message
+      at_message : (kept : List ℕ) → IsKept kept (body config from headers spans used left r is extends takes.got)
+          → (holds : Message → Type 0) → AtFront from.unread spans kept holds → holds message
       unfolding message
-      at_message holds each =
+      at_message kept keeps holds each =
           each (h config from headers spans used left r is extends)
           (behind config from headers spans used left r is extends)
           (body config from headers spans used left r is extends takes.got)
           (reads config from headers spans used left r is extends)
           (body_is config from headers spans used left r is extends takes.got whole)
           (body_length config from headers spans used left r is extends takes.got whole)
+          keeps
 
       -- there was no memory for the reply
       pub reply_unmade : BreaksOff config from a c
@@ -124,8 +127,9 @@ module _ (config : Config) (from : Standing) (headers : List HeaderSpan) (spans 
 
       module _ (end : Option End) (end_is : end ≡ end_of_good from.count spans.close)
           (of_none : failing_at end ≡ nothing) (close : Bool) (closes : close ≡ is_some end)
-          (answer : Reply) (answers : AtFront from.unread spans (λ m. answer ≡ (one config from.state m r).reply))
-          (new : State) (stores : AtFront from.unread spans (λ m. new ≡ after config from.state m r)) where
+          (kept : List ℕ) (keeps : IsKept kept (body config from headers spans used left r is extends takes.got))
+          (answer : Reply) (answers : AtFront from.unread spans kept (λ m. answer ≡ (one config from.state m r).reply))
+          (new : State) (stores : AtFront from.unread spans kept (λ m. new ≡ after config from.state m r)) where
         text : List Act
         text = said config from headers spans used left r is extends takes.got end
 
@@ -134,11 +138,11 @@ module _ (config : Config) (from : Standing) (headers : List HeaderSpan) (spans 
         same_text = said_is config from headers spans used left r is extends takes.got end close closes
 
         printed : text_of_reply answer r close ≡ reply config from.state message r close
-        printed = text_is config from.state message r close answer (at_message (λ m. answer ≡
+        printed = text_is config from.state message r close answer (at_message kept keeps (λ m. answer ≡
             (one config from.state m r).reply) answers)
 
         stored : new ≡ after config from.state message r
-        stored = at_message (λ m. new ≡ after config from.state m r) stores
+        stored = at_message kept keeps (λ m. new ≡ after config from.state m r) stores
 
         -- it was sent
         pub reply_sent : {d : Told} → SentAll c d (text_of_reply answer r close) → (to : Standing) → new ≡ to.state

@@ -1,5 +1,5 @@
 -- Stretches of calls on the last connection, one after another.
-use Rattle.std.proofs.Common.{◌≡◌, ℕ, ◌+◌, ◌<◌, List, [], ◌++◌, length, take, refl, sym, ap, subst, ◌∙◌, arith, append-nil, append_assoc, length-append}
+use Rattle.std.proofs.Common.{◌≡◌, ℕ, ◌+◌, ◌-◌, ◌≤◌, ◌<◌, List, [], ◌++◌, length, take, refl, sym, ap, subst, ◌∙◌, arith, append-nil, append_assoc, length-append}
 use Rattle.std.specs.Prelude.{min}
 use Rattle.std.specs.FinMap as map
 use Rattle.std.proofs.lemmas.List.{take_min, take-append-le}
@@ -197,6 +197,28 @@ of_more {missing = missing} more first some second sum = record {
   sum = omega (arith, first.sum, sum, length-append first.got more);
   takes = takes_then first.got more (λ l. length l < missing) (λ l. l ≡ []) first.takes second (λ l none. omega
       (arith, first.sum, some, length-append first.got l, ap length none));
+}
+
+-- the same, by the bytes that were there
+abbrev pub of_behind : {a b : Told} {here now : List ℕ} {failing : Failing} (at filled missing end : ℕ) → end ≡ at + missing
+    → TakesBehind a b here now (λ l. length l < end) failing → length here ≡ at → length now ≡ filled → filled ≤ end
+    → TakesOf a b missing (end - filled) failing
+of_behind {a = a} {here = here} at filled missing end is first here_is now_is within = record {
+  got = first.got;
+  sum = omega (arith, is, within, here_is, now_is, ap length first.behind, length-append here first.got);
+  takes = record {
+    waits = first.takes.waits;
+    transfer = first.takes.transfer;
+    each = all_more (TakenAt (wait_of (current a.connections)) first.got (λ l. length (here ++ l) < end))
+        (TakenAt (wait_of (current a.connections)) first.got (λ l. length l < missing)) first.takes.waits
+        (λ w x. record {
+          till = x.till;
+          later = x.later;
+          cut = x.cut;
+          at = x.at;
+          holds = omega (arith, is, x.holds, here_is, length-append here x.till);
+        }) first.takes.each;
+  };
 }
 
 -- bytes sent behind others, all of them or a first part

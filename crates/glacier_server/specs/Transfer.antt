@@ -3,6 +3,7 @@ use Rattle.std.specs.Prelude.{◌≡◌, ℕ, ◌+◌, ◌<◌, ◌≤◌, true,
 use Rattle.glacier_base.specs.Outside.{one_more}
 use Rattle.glacier_disk.specs.Network.{Connection, Wait, accepted, sent_on, wait_of}
 use Rattle.glacier_disk.specs.Told.{Told}
+use Rattle.glacier_machine.specs.SignedRequests.{IsKept}
 use Rattle.glacier_server.specs.Acts.{Act, sends, bytes_of, sent_by, after_acts}
 use Rattle.glacier_server.specs.Machine.{State}
 use Rattle.glacier_server.specs.Session.{Session, taking, acting}
@@ -119,6 +120,12 @@ pub record TakesOf (old new : Told) (missing left : ℕ) (failing : Failing) : T
   pub got : List ℕ
   pub sum : left + length got ≡ missing
   pub takes : Takes old new got (λ front. length front < missing) failing
+
+-- they were taken of a body of which the first are here, and where none is missing, this is what is
+-- kept of it
+pub record TakesBody (old new : Told) (here kept : List ℕ) (missing left : ℕ) : Type 0 where
+  pub rest : TakesOf old new missing left nothing
+  pub keeps : left ≡ 0 → IsKept kept (here ++ rest.got)
 
 -- all these bytes were sent, and nothing else was done
 abbrev pub SentAll : Told → Told → List ℕ → Type 0

@@ -8,7 +8,7 @@ ghost use Rattle.glacier_server.specs.Served.{failing_of};
 ghost use Rattle.glacier_server.specs.Transfer.{nothing, Keeps};
 
 use crate::Store;
-use crate::body::take_rest;
+use crate::body::{front_of, take_body};
 use crate::buffers::Buffers;
 use crate::end::End;
 use crate::extent::extent_of;
@@ -124,7 +124,9 @@ impl Service<'_> {
         let reading = station.now();
         let length = buffers.unread.count();
         let extent = extent_of(spans, length);
-        let left = match take_rest(station, &mut buffers.piece, extent.left) {
+        let here = &buffers.unread.bytes()[spans.head_length as usize..extent.used];
+        let size = spans.content_length;
+        let left = match take_body(station, &mut buffers.body, here, extent.left, size) {
             Ok(left) => left,
             Err(_) => return Ok(Some(End::ReadFault)),
         };
@@ -133,7 +135,9 @@ impl Service<'_> {
                 taken: length as u64 + (extent.left - left),
             }));
         }
-        let reply = match self.reply_to_message(store, buffers, spans, reading) {
+        let lent = &*buffers;
+        let kept = front_of(&lent.body, size);
+        let reply = match self.reply_to_message(store, lent, spans, kept, reading) {
             Ok(reply) => reply,
             Err(error) => return Err(error),
         };

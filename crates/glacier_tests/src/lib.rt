@@ -10,6 +10,12 @@ mod hmac_tests;
 #[cfg(test)]
 mod host_disk_tests;
 #[cfg(test)]
+mod http_reply_tests;
+#[cfg(test)]
+mod http_tests;
+#[cfg(test)]
+mod machine_tests;
+#[cfg(test)]
 mod map_tests;
 #[cfg(test)]
 mod outside_tests;
@@ -19,3 +25,5 @@ mod plans;
 mod stop_tests;
 #[cfg(test)]
 mod treehash_tests;
+#[cfg(test)]
+mod vault_tests;

@@ -1,7 +1,10 @@
-use Rattle.std.proofs.Common.{rules, ◌≡◌, ◌≤◌, sym, subst, refl, ℕ, arith}
+use Rattle.std.proofs.Common.{rules, ◌≡◌, ◌≤◌, ◌-◌, ◌∙◌, ◌++◌, sym, ap, subst, refl, ℕ, List, take, drop, arith}
 use Rattle.std.specs.Option.{is_some}
+use Rattle.glacier_machine.specs.SignedRequests.{IsKept}
 use Rattle.glacier_server.specs.Exchange.{standing}
+use Rattle.glacier_server.proofs.AnswerLemmas.{kept_body}
 use Rattle.glacier_server.proofs.ExtentLemmas.{extends_by, head_fits, good_of}
+use Rattle.glacier_server.proofs.ListLemmas.{written}
 use Rattle.glacier_server.proofs.MessageLemmas.{body_failed, body_cut, reply_unmade, reply_sent, reply_unsent}
 use Rattle.glacier_server.proofs.StepLemmas.{reads}
 use Rattle.glacier_server.proofs.service.Service.answer.Goals as goal
@@ -27,7 +30,7 @@ returns-then-left-gt0-clause-exchange g c t =
     body_cut c.args.self.now.config.now (standing c.args.count c.args.buffers.now.unread c.args.store.now) c.args.buffers.now.head c.args.spans.now _ _ c.requires.good
     (extends_by _ _ _ _ _ c.count-length.ensures.same c.extent_of-extent.ensures.used c.extent_of-extent.ensures.left)
     (λ state. reads state c.now-reading.result c.now-reading.ensures.call (c.now-reading.ensures.reading t))
-    (c.in-Ok.ensures.takes t)
+    (c.in-Ok.ensures.takes t).rest
     c.if-left-gt0.true (c.in-Ok.ensures.end t c.if-left-gt0.true) _ c.count-length.ensures.same _ refl
 
 pub returns-in-Err-reply_to_message-clause-broken : goal.returns-in-Err-reply_to_message-clause-broken
@@ -35,25 +38,37 @@ returns-in-Err-reply_to_message-clause-broken g c t =
     reply_unmade c.args.self.now.config.now (standing c.args.count c.args.buffers.now.unread c.args.store.now) c.args.buffers.now.head c.args.spans.now _ _ c.requires.good
     (extends_by _ _ _ _ _ c.count-length.ensures.same c.extent_of-extent.ensures.used c.extent_of-extent.ensures.left)
     (λ state. reads state c.now-reading.result c.now-reading.ensures.call (c.now-reading.ensures.reading t))
-    (c.in-Ok.ensures.takes t) (omega (arith, c.if-left-gt0.false))
+    (c.in-Ok.ensures.takes t).rest (omega (arith, c.if-left-gt0.false))
 
 pub returns-in-Ok-send_reply-clause-exchange : goal.returns-in-Ok-send_reply-clause-exchange
 returns-in-Ok-send_reply-clause-exchange g c t =
+    let kept : c.front_of-kept.result.now ≡ take c.args.spans.now.content_length c.take_body.new.buffer = c.front_of-kept.ensures ∙ ap (λ (l : List ℕ). take c.args.spans.now.content_length l) (c.deref.ensures.value ∙ written _ _ _ (search rules)) in
     let flag : c.is_some.result ≡ is_some c.good_end-end.result = search rules in
     reply_sent c.args.self.now.config.now (standing c.args.count c.args.buffers.now.unread c.args.store.now) c.args.buffers.now.head c.args.spans.now _ _ c.requires.good
     (extends_by _ _ _ _ _ c.count-length.ensures.same c.extent_of-extent.ensures.used c.extent_of-extent.ensures.left)
     (λ state. reads state c.now-reading.result c.now-reading.ensures.call (c.now-reading.ensures.reading t))
-    (c.in-Ok.ensures.takes t) (omega (arith, c.if-left-gt0.false))
-    c.good_end-end.result c.good_end-end.ensures.end c.good_end-end.ensures.of_none c.is_some.result flag c.in-Ok-reply_to_message.reply c.in-Ok-reply_to_message.ensures.reply
+    (c.in-Ok.ensures.takes t).rest (omega (arith, c.if-left-gt0.false))
+    c.good_end-end.result c.good_end-end.ensures.end c.good_end-end.ensures.of_none c.is_some.result flag
+    c.front_of-kept.result.now
+    (kept_body c.args.self.now.config.now (standing c.args.count c.args.buffers.now.unread c.args.store.now) c.args.buffers.now.head c.args.spans.now _ _ c.now-reading.result c.requires.good
+    (extends_by _ _ _ _ _ c.count-length.ensures.same c.extent_of-extent.ensures.used c.extent_of-extent.ensures.left)
+    _ c.bytes.result.now c.bytes.ensures.same _ (subst (λ (l : List ℕ). IsKept l (take (c.extent_of-extent.result.used - c.args.spans.now.head_length)
+    (drop c.args.spans.now.head_length c.bytes.result.now) ++ (c.in-Ok.ensures.takes t).rest.got)) (sym kept) ((c.in-Ok.ensures.takes t).keeps (omega (arith, c.if-left-gt0.false))))) c.in-Ok-reply_to_message.reply c.in-Ok-reply_to_message.ensures.reply
     c.reply_to_message.new.store c.in-Ok-reply_to_message.ensures.store
     (c.in-Ok-send_reply.ensures.sent t) _ refl c.skip.ensures
 
 pub returns-clause-exchange : goal.returns-clause-exchange
 returns-clause-exchange g c t =
+    let kept : c.front_of-kept.result.now ≡ take c.args.spans.now.content_length c.take_body.new.buffer = c.front_of-kept.ensures ∙ ap (λ (l : List ℕ). take c.args.spans.now.content_length l) (c.deref.ensures.value ∙ written _ _ _ (search rules)) in
     let flag : c.is_some.result ≡ is_some c.good_end-end.result = search rules in
     reply_unsent c.args.self.now.config.now (standing c.args.count c.args.buffers.now.unread c.args.store.now) c.args.buffers.now.head c.args.spans.now _ _ c.requires.good
     (extends_by _ _ _ _ _ c.count-length.ensures.same c.extent_of-extent.ensures.used c.extent_of-extent.ensures.left)
     (λ state. reads state c.now-reading.result c.now-reading.ensures.call (c.now-reading.ensures.reading t))
-    (c.in-Ok.ensures.takes t) (omega (arith, c.if-left-gt0.false))
-    c.good_end-end.result c.good_end-end.ensures.end c.good_end-end.ensures.of_none c.is_some.result flag c.in-Ok-reply_to_message.reply c.in-Ok-reply_to_message.ensures.reply
+    (c.in-Ok.ensures.takes t).rest (omega (arith, c.if-left-gt0.false))
+    c.good_end-end.result c.good_end-end.ensures.end c.good_end-end.ensures.of_none c.is_some.result flag
+    c.front_of-kept.result.now
+    (kept_body c.args.self.now.config.now (standing c.args.count c.args.buffers.now.unread c.args.store.now) c.args.buffers.now.head c.args.spans.now _ _ c.now-reading.result c.requires.good
+    (extends_by _ _ _ _ _ c.count-length.ensures.same c.extent_of-extent.ensures.used c.extent_of-extent.ensures.left)
+    _ c.bytes.result.now c.bytes.ensures.same _ (subst (λ (l : List ℕ). IsKept l (take (c.extent_of-extent.result.used - c.args.spans.now.head_length)
+    (drop c.args.spans.now.head_length c.bytes.result.now) ++ (c.in-Ok.ensures.takes t).rest.got)) (sym kept) ((c.in-Ok.ensures.takes t).keeps (omega (arith, c.if-left-gt0.false))))) c.in-Ok-reply_to_message.reply c.in-Ok-reply_to_message.ensures.reply
     c.reply_to_message.new.store c.in-Ok-reply_to_message.ensures.store (c.in-Err-send_reply.ensures.failed t) _ refl

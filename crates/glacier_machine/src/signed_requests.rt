@@ -1,0 +1,115 @@
+// What a message with a good head asks for.
+ghost use Rattle.std.specs.Prelude.{◌≡◌, ℕ, List, length, IfOk, IfErr};
+ghost use Rattle.glacier_http.specs.View.{HasNames};
+ghost use Rattle.glacier_machine.specs.Refusals.{HasAsciiText};
+ghost use Rattle.glacier_machine.specs.SignedRequests.{fault_refusal as refusal_of_fault, signer_of, on_account, routed_request as request_of_route, verified_request as request_of_verdict, request_with as request_of_head, request_in, IsKept};
+
+use crate::action::Request;
+use crate::config::Config;
+use crate::content_hash::{digest, need_refusal};
+use crate::requests::request_of;
+use crate::routes::RouteStep;
+use crate::routing::route;
+use glacier_base::{Account, Memory, Moment};
+use glacier_http::{Find, Head};
+use glacier_sigv4::{AuthFault, verify};
+use glacier_vault::Refusal;
+use std::alloc::Global;
+
+fn fault_refusal(fault: AuthFault) -> Refusal
+    ensures { result ≡ refusal_of_fault fault }
+{
+    match fault {
+        AuthFault::Missing => Refusal::Missing,
+        AuthFault::Malformed => Refusal::Malformed,
+        AuthFault::UnknownKey => Refusal::UnknownKey,
+        AuthFault::WrongScope => Refusal::WrongScope,
+        AuthFault::Unsigned { header } => Refusal::Unsigned { header },
+        AuthFault::Skewed { theirs, ours } => Refusal::Skewed { theirs, ours },
+        AuthFault::BadSignature => Refusal::BadSignature,
+    }
+}
+
+/// Whose message it is, or why it isn't verified. The body is hashed where its hash isn't named.
+fn signer(
+    alloc: Global,
+    config: &Config,
+    head: &Head<'_>,
+    body: &[u8],
+    reading: Moment,
+) -> Result<Result<Account, AuthFault>, Memory>
+    ensures { IfOk result (λ verdict. verdict ≡ signer_of config.now head.now body.now reading) }
+{
+    let (ring, region) = (&config.ring, &config.region);
+    match head.find(b"x-amz-content-sha256") {
+        Find::None => verify(alloc, ring, region, head, &digest(body).text(), reading),
+        Find::One(named) => verify(alloc, ring, region, head, named, reading),
+        Find::Many(named) => verify(alloc, ring, region, head, named, reading),
+    }
+}
+
+/// What a signer's head asks for: NoRoute and BadName by `route`, and then as `request_of`.
+fn routed_request(
+    alloc: Global,
+    signer: Account,
+    head: &Head<'_>,
+    content_length: u64,
+    body: &[u8],
+) -> Result<Result<Request, Refusal>, Memory>
+    ensures { IfOk result (λ request. request
+        ≡ request_of_verdict (Ok signer) head.now content_length body.now) }
+{
+    let route = match route(head) {
+        RouteStep::Route(route) => route,
+        RouteStep::NoRoute => return Ok(Err(Refusal::NoRoute)),
+        RouteStep::BadName => return Ok(Err(Refusal::BadName)),
+    };
+    match request_of(alloc, &route, &signer, head, content_length, body)? {
+        Ok(action) => Ok(Ok(Request {
+            account: signer,
+            action,
+        })),
+        Err(refusal) => Ok(Err(refusal)),
+    }
+}
+
+fn read(
+    alloc: Global,
+    config: &Config,
+    head: &Head<'_>,
+    content_length: u64,
+    body: &[u8],
+    reading: Moment,
+) -> Result<Result<Request, Refusal>, Memory>
+    ensures { IfOk result (λ request. request
+        ≡ request_of_head config.now head.now content_length body.now reading) }
+{
+    if let Some(refusal) = need_refusal(head, content_length) {
+        return Ok(Err(refusal));
+    }
+    match signer(alloc, config, head, body, reading)? {
+        Ok(signer) => routed_request(alloc, signer, head, content_length, body),
+        Err(fault) => Ok(Err(fault_refusal(fault))),
+    }
+}
+
+/// What a message asks for, or the first that holds of HashNeeded (its body has more than
+/// `MOST_BODY` bytes, and the head doesn't name its hash), the faults of `verify` at this reading,
+/// NoRoute and BadName by `route`, and the refusals of `request_of`. `body` is what is kept of the
+/// body: all of it, unless it has more than `MOST_BODY` bytes. What is asked for is asked of the
+/// signer's account.
+pub fn read_request(
+    alloc: Global,
+    config: &Config,
+    head: &Head<'_>,
+    content_length: u64,
+    body: &[u8],
+    reading: Moment,
+) -> Result<Result<Request, Refusal>, Memory>
+    ensures request { (whole : List ℕ) → length whole ≡ content_length → IsKept body.now whole
+        → IfOk result (λ request. request ≡ request_in config.now head.now whole reading) }
+    ensures ascii { IfOk result (λ request. IfErr request HasAsciiText) }
+{
+    let _names = head.count();
+    read(alloc, config, head, content_length, body, reading)
+}

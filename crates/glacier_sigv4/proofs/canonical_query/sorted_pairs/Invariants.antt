@@ -1,7 +1,0 @@
-use Rattle.std.proofs.Common.{◌≡◌, map, take}
-use Rattle.glacier_sigv4.specs.CanonicalQuery.{encoded_pair}
-use Rattle.glacier_sigv4.specs.Encoded.{shown}
-use Rattle.glacier_sigv4.proofs.canonical_query.sorted_pairs.Given as goal
-
-abbrev pub invariant-loop-pair : goal.invariant-loop-pair
-invariant-loop-pair l = map shown l.sorted.items ≡ map encoded_pair (take l.pair-index l.pair-items)
