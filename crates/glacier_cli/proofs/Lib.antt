@@ -3,3 +3,4 @@ pub mod Hashing
 pub mod KeyPrefixLemmas
 pub mod ListenLemmas
 pub mod PartLemmas
+pub mod ProgramLemmas
