@@ -5,7 +5,7 @@
 
 It starts the program at a free port, makes a vault, and asks for it so many times (20,000 where no number is given): on
 connections that are kept for 1,000 requests, which is the most that one may have, and on a connection for each request.
-It prints requests a second, and the processor time that the server took for a request (user and system, by
+Each request is signed, once for the whole run, so a run may take no longer than 15 minutes. It prints requests a second, and the processor time that the server took for a request (user and system, by
 /proc/PID/stat). Then clients come that don't behave, and each time it is seen that the next one is served. Last a client
 connects and says nothing, and the time is taken until a second client has its reply; the same for a client that sends one
 byte a second of a head of some bytes.
@@ -13,6 +13,8 @@ byte a second of a head of some bytes.
 Each reply is compared with what the first one was, its date aside.
 """
 
+import hashlib
+import hmac
 import os
 import socket
 import struct
@@ -24,10 +26,33 @@ import time
 
 ROOT = os.path.dirname(os.path.dirname(os.path.abspath(__file__)))
 KEPT = 1000
-HEAD = "%s /111122223333/vaults/bench HTTP/1.1\r\nHost: h\r\nx-amz-glacier-version: 2012-06-01\r\n%s\r\n"
-PUT = (HEAD % ("PUT", "")).encode()
-GET = (HEAD % ("GET", "")).encode()
-GET_AND_CLOSE = (HEAD % ("GET", "Connection: close\r\n")).encode()
+KEYS = ("111122223333", "AKIDEXAMPLE", "wJalrXUtnFEMI/K7MDENG+bPxRfiCYEXAMPLEKEY")
+PATH = "/-/vaults/bench"
+
+
+def signed(method, more=""):
+    """Returns a request for the vault, signed by Signature Version 4 at this moment, with further fields that aren't."""
+    moment = time.strftime("%Y%m%dT%H%M%SZ", time.gmtime())
+    fields = {"host": "h", "x-amz-date": moment, "x-amz-glacier-version": "2012-06-01"}
+    names = ";".join(fields)
+    lines = "".join(f"{name}:{value}\n" for name, value in fields.items())
+    canonical = f"{method}\n{PATH}\n\n{lines}\n{names}\n{hashlib.sha256(b'').hexdigest()}"
+    scope = f"{moment[:8]}/us-east-1/glacier/aws4_request"
+    key = ("AWS4" + KEYS[2]).encode()
+    for part in scope.split("/"):
+        key = hmac.new(key, part.encode(), hashlib.sha256).digest()
+    text = f"AWS4-HMAC-SHA256\n{moment}\n{scope}\n{hashlib.sha256(canonical.encode()).hexdigest()}"
+    signature = hmac.new(key, text.encode(), hashlib.sha256).hexdigest()
+    head = "".join(f"{name}: {value}\r\n" for name, value in fields.items())
+    credential = f"Credential={KEYS[1]}/{scope}, SignedHeaders={names}, Signature={signature}"
+    return f"{method} {PATH} HTTP/1.1\r\n{head}Authorization: AWS4-HMAC-SHA256 {credential}\r\n{more}\r\n".encode()
+
+
+# The program is built before anything is signed, since that may take longer than a signature is good for.
+subprocess.run([f"{ROOT}/glacier", "hash", "/dev/null"], stdout=subprocess.DEVNULL, check=True)
+PUT = signed("PUT")
+GET = signed("GET")
+GET_AND_CLOSE = signed("GET", "Connection: close\r\n")
 
 
 def free_port():
@@ -187,6 +212,8 @@ def main():
     count = int(sys.argv[1]) if len(sys.argv) > 1 else 20000
     port = free_port()
     with tempfile.TemporaryDirectory() as folder:
+        with open(f"{folder}/keys", "w", encoding="ascii") as it:
+            it.write(" ".join(KEYS) + " 64\n")
         words = [f"{ROOT}/glacier", "serve", folder, f"{folder}/keys", "--listen", f"127.0.0.1:{port}"]
         process = subprocess.Popen(words, stdout=subprocess.PIPE)
         try:

@@ -3,6 +3,7 @@ use Rattle.std.specs.Prelude.{◌≡◌, ◌⊎◌, ◌<◌, Bool, ℕ, List, []
 use Rattle.std.specs.FinMap as map
 use Rattle.glacier_disk.specs.Told.{Told}
 use Rattle.glacier_machine.specs.declared.config.Config.{Config}
+use Rattle.glacier_sigv4.specs.declared.ring.Entry.{Entry}
 use Rattle.glacier_server.specs.declared.end.ServeFault.{ServeFault}
 use Rattle.glacier_server.specs.Machine.{State}
 use Rattle.glacier_server.specs.Serving.{Serves, Broken}
@@ -24,9 +25,9 @@ pub record Idle (station : StationUse) : Type 0 where
   pub connections : station.after.connections ≡ station.before.connections
   pub readings : station.after.readings ≡ station.before.readings
 
--- the region and the delays of a server that is told of no others
-abbrev pub default_config : Config
-default_config = record { region = codes "us-east-1"; delays = 300 ∷ 14400 ∷ 28800 ∷ [] }
+-- the accounts of a ring, with the region and the delays of a server that is told of no others
+abbrev pub default_config : List Entry → Config
+default_config ring = record { region = codes "us-east-1"; ring = ring; delays = 300 ∷ 14400 ∷ 28800 ∷ [] }
 
 -- no folder was opened, and this address was listened at, once, and no other
 abbrev pub ListensAt : StationUse → List ℕ → Type 0
@@ -41,15 +42,15 @@ ListensAtMost station address =
     ⊎ (station.after.listener.addresses ≡ station.before.listener.addresses ++ address ∷ []))
     × (station.after.folders ≡ station.before.folders)
 
--- so many connections came to this address and were served, from the state of no account on; fewer than the most only
--- where none is left to come
-pub record ServesAt (station : StationUse) (address : List ℕ) (count : ℕ) : Type 0 where
+-- so many connections came to this address and the accounts of the ring were served on them, from the state of no
+-- account on; fewer than the most only where none is left to come
+pub record ServesAt (station : StationUse) (ring : List Entry) (address : List ℕ) (count : ℕ) : Type 0 where
   pub listens : ListensAt station address
   pub state : State
-  pub serves : Serves default_config station.before station.after map.empty state count
+  pub serves : Serves (default_config ring) station.before station.after map.empty state count
   pub fewer : count < CONNECTIONS → station.after.listener.to_come ≡ 0
 
--- those that came before the fault, no more than the most, were served, from the state of no account on, or memory was
+-- those that came before the fault, no more than the most, were served so, from the state of no account on, or memory was
 -- wanting before the first
-abbrev pub BreaksAt : StationUse → ServeFault → Type 0
-BreaksAt station fault = Broken default_config station.before station.after map.empty CONNECTIONS fault
+abbrev pub BreaksAt : StationUse → List Entry → ServeFault → Type 0
+BreaksAt station ring fault = Broken (default_config ring) station.before station.after map.empty CONNECTIONS fault

@@ -9,7 +9,7 @@ ghost use Rattle.glacier_cli.specs.StationUse.{station_use};
 use crate::command::Command;
 use crate::ending::Ending;
 use crate::hash::hash;
-use crate::serve::serve_at;
+use crate::serve::serve_keys;
 use glacier_base::{Files, Sink};
 use glacier_disk::Station;
 use std::alloc::Global;
@@ -29,26 +29,28 @@ fn ending_of<R: Threads + Sync, F: Files, S: Station>(
         (file_use F.tells (F.told files.old) (F.told files.new))
         (station_use S.tells (S.told station.old) (S.told station.new)) result }
     ensures contents { KeepsContents (file_use F.tells (F.told files.old) (F.told files.new)) }
-    ensures alone { ((address : List ℕ) →
-        form_of (map string_bytes words.now) ≢ Some (serve_form address)) →
+    ensures alone { ((keys address : List ℕ) →
+        form_of (map string_bytes words.now) ≢ Some (serve_form keys address)) →
         station.new ≡ station.old }
 {
     match Command::of(words) {
         Some(Command::Hash(name)) => hash(rt, alloc, name, files),
-        Some(Command::Serve(address)) => serve_at(alloc, address, station),
+        Some(Command::Serve { keys, address }) => {
+            serve_keys(alloc, keys, address, files, station)
+        }
         None => Ending::Usage,
     }
 }
 
 /// Does what the words say, prints a line and answers the status: 0 where all went well, 2 where
-/// the words are none of the forms, 3 where a file couldn't be opened or read, 4 where memory was
-/// wanting, 6 where the address couldn't be listened at or no connection be accepted, 7 where the
-/// line couldn't be written.
+/// the words are none of the forms, 3 where a file couldn't be opened or read or a line of the key
+/// file is bad, 4 where memory was wanting, 6 where the address couldn't be listened at or no
+/// connection be accepted, 7 where the line couldn't be written.
 ///
 /// The forms are `hash [FILE]`, which prints the tree hash of the file or of standard input, and
-/// `serve FOLDER KEYS --listen ADDR`, which serves the connections that come to the address, at
-/// most 1,000,000, and prints how many they were. What is served is kept in memory: the folder and
-/// the key file aren't opened.
+/// `serve FOLDER KEYS --listen ADDR`, which reads the key file, serves its accounts on the
+/// connections that come to the address, at most 1,000,000, and prints how many they were. What is
+/// served is kept in memory: the folder isn't opened.
 pub fn run<R: Threads + Sync, F: Files, S: Station, O: Sink>(
     rt: &R,
     alloc: Global,
@@ -72,10 +74,11 @@ pub fn run<R: Threads + Sync, F: Files, S: Station, O: Sink>(
         form_of (map string_bytes words.now) ≡ Some (hash_form name) →
         HashRun (file_use F.tells (F.told files.old) (F.told files.new))
         (sink_use O.tells (O.told out.old) (O.told out.new)) name result }
-    ensures serve { (address : List ℕ) →
-        form_of (map string_bytes words.now) ≡ Some (serve_form address) →
-        ServeRun (station_use S.tells (S.told station.old) (S.told station.new))
-        (sink_use O.tells (O.told out.old) (O.told out.new)) address result }
+    ensures serve { (keys address : List ℕ) →
+        form_of (map string_bytes words.now) ≡ Some (serve_form keys address) →
+        ServeRun (file_use F.tells (F.told files.old) (F.told files.new))
+        (station_use S.tells (S.told station.old) (S.told station.new))
+        (sink_use O.tells (O.told out.old) (O.told out.new)) keys address result }
     ensures usage { form_of (map string_bytes words.now) ≡ None →
         UsageRun (file_use F.tells (F.told files.old) (F.told files.new)) result }
     ensures reason { HasReason (form_of (map string_bytes words.now))
@@ -85,8 +88,8 @@ pub fn run<R: Threads + Sync, F: Files, S: Station, O: Sink>(
 
     // No content changes, and `serve` alone does anything at the station.
     ensures alone { KeepsContents (file_use F.tells (F.told files.old) (F.told files.new))
-        × (((address : List ℕ) →
-        form_of (map string_bytes words.now) ≢ Some (serve_form address)) →
+        × (((keys address : List ℕ) →
+        form_of (map string_bytes words.now) ≢ Some (serve_form keys address)) →
         station.new ≡ station.old) }
 {
     ending_of(rt, alloc, words, files, station).print(out)
