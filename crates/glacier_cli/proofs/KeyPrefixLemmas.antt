@@ -69,10 +69,17 @@ good_line line entry is =
     option_and_then_some _ (cut_at 32 access.1) parts rest (λ secret cut_secret last.
     option_map_some (λ quota. (account.0, access.0, secret.0, quota)) (quota_in secret.1) parts last (λ quota is_quota same.
     let short = parts_short account.0 access.0 secret.0 quota entry
-        (subst (λ (p : List ℕ × List ℕ × List ℕ × ℕ). entry_from p.0 p.1 p.2 p.3 ≡ Some entry) (sym same) made) in
-    omega (arith, cut_length 32 line account cut_account, cut_length 32 account.1 access cut_access,
-    cut_length 32 access.1 secret cut_secret, quota_length secret.1 quota is_quota,
-    short.account_length, short.access_length, short.secret_length))))))
+    (subst (λ (p : List ℕ × List ℕ × List ℕ × ℕ). entry_from p.0 p.1 p.2 p.3 ≡ Some entry) (sym same) made) in
+    omega (
+      arith,
+      cut_length 32 line account cut_account,
+      cut_length 32 account.1 access cut_access,
+      cut_length 32 access.1 secret cut_secret,
+      quota_length secret.1 quota is_quota,
+      short.account_length,
+      short.access_length,
+      short.secret_length,
+    ))))))
 
 -- a longer line is bad, wherever it stands
 long_line : (entries : List Entry) (line : List ℕ) → (64 - length entries) * 279 < length line → next_entry entries line ≡ None

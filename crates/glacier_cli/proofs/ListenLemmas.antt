@@ -50,7 +50,7 @@ module _ {T E : Type 0} {old mid : Told} {result : Result T E} (listens : Listen
         → Serves terms old new map.empty state count
     serves_at {state = state} {count = count} given =
         let serves = subst (λ (c : Config). Serves c mid new map.empty state count) is_given
-            (subst (λ (s : State). Serves config mid new s state count) is_empty given) in
+        (subst (λ (s : State). Serves config mid new s state count) is_empty given) in
         record {
           came = serves.came;
           sessions = serves.sessions;
@@ -65,7 +65,7 @@ module _ {T E : Type 0} {old mid : Told} {result : Result T E} (listens : Listen
         → Broken terms old new map.empty CONNECTIONS fault
     broken_at {fault = fault} (inl given) =
         let breaks = subst (λ (c : Config). Breaks c mid new map.empty CONNECTIONS fault) is_given
-            (subst (λ (s : State). Breaks config mid new s CONNECTIONS fault) is_empty given) in
+        (subst (λ (s : State). Breaks config mid new s CONNECTIONS fault) is_empty given) in
         inl (record {
           came = breaks.came;
           sessions = breaks.sessions;

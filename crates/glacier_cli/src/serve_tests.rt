@@ -126,8 +126,18 @@ const KEY_FILES: [(&str, &str, &[u64], &str); 7] = [
     (SERVE, KEY, &[1], "file fault\n"),
     (SERVE, KEY, &[2], "file fault\n"),
     (SERVE, "", &[], "bad key file: line 1\n"),
-    (SERVE, "111122223333 A s 64\n111122223333 B s 1\n", &[], "bad key file: line 2\n"),
-    (SERVE, "111122223333 A s 64\n\n", &[], "bad key file: line 2\n"),
+    (
+        SERVE,
+        "111122223333 A s 64\n111122223333 B s 1\n",
+        &[],
+        "bad key file: line 2\n",
+    ),
+    (
+        SERVE,
+        "111122223333 A s 64\n\n",
+        &[],
+        "bad key file: line 2\n",
+    ),
 ];
 
 const SERVE_OTHER: &str = "serve folder nosuch --listen 127.0.0.1:8080";

@@ -28,8 +28,7 @@ returns-in-Ok g c =
     let kept = c.serve.ensures.kept in
     let named : IsTrue g.S.Disk.tells → mid.listener.addresses ≡ old.listener.addresses ++ c.args.address.now ∷ [] =
     λ t. search rules in
-    let faults : mid.listener.faults ≡ old.listener.faults = search rules in
-    (
+    let faults : mid.listener.faults ≡ old.listener.faults = search rules in (
       c.in-Ok.ensures.most,
       c.in-Ok.ensures.accepts ∙ faults,
       λ t. record {
