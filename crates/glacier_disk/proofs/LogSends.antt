@@ -1,5 +1,5 @@
 -- What a step of the open connection says of the bytes sent, by the log.
-use Rattle.std.proofs.Common.{◌≡◌, ℕ, Option, List, [], ◌∷◌, ◌++◌, sym, ◌∙◌, ap}
+use Rattle.std.proofs.Common.{◌≡◌, ℕ, List, [], ◌∷◌, ◌++◌, sym, ◌∙◌, ap}
 use Rattle.std.specs.List.{concat}
 use Rattle.std.specs.declared.option.Option.TheVariants.{Some}
 use Rattle.glacier_disk.specs.Contents.{image_of}

@@ -3,7 +3,7 @@ use Rattle.std.proofs.Common.{◌≡◌, ◌∙◌, sym, ℕ, ◌+◌, min, List
 use Rattle.std.proofs.lemmas.List.{same_lists, places, length-take}
 use Rattle.glacier_disk.specs.declared.mem_connection.MemConnection.{MemConnection}
 use Rattle.glacier_disk.specs.MemConnections.{connection_of}
-use Rattle.glacier_disk.specs.Network.{Wait, wait_of}
+use Rattle.glacier_disk.specs.Network.{wait_of}
 
 module _ (xs : List ℕ) (taken start n : ℕ) (is : start ≡ min taken (length xs)) where
   pub coming-next : drop taken xs ≡ take n (drop start xs) ++ drop (start + n) xs

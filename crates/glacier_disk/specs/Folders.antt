@@ -1,7 +1,6 @@
 -- The contents of the files of a folder.
 use Rattle.std.specs.Prelude.{List, [], ℕ, Option}
 use Rattle.std.specs.declared.option.Option.TheVariants.{Some, None}
-use Rattle.glacier_disk.specs.declared.area.Area.{Area}
 use Rattle.glacier_disk.specs.declared.area.Area.TheVariants.{Lead, Left, Right, Blobs}
 use Rattle.glacier_disk.specs.declared.folder.Folder.{Folder}
 use Rattle.glacier_disk.specs.declared.raw_file.RawFile.{Ghosts}

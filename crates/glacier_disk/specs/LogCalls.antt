@@ -1,5 +1,5 @@
 -- What the calls of the memory form do to its log.
-use Rattle.std.specs.Prelude.{◌≡◌, ℕ, true, is_some, List, length, Result, IsErr}
+use Rattle.std.specs.Prelude.{◌≡◌, true, is_some, length, Result, IsErr}
 use Rattle.std.specs.List.{Contains}
 use Rattle.glacier_disk.specs.Calls.{Counted}
 use Rattle.glacier_disk.specs.Contents.{image_of}

@@ -1,5 +1,5 @@
-use Rattle.std.proofs.Common.{◌≡◌, ◌+◌, ◌≤◌, ◌∙◌, ℕ, List, IsTrue, drop, length, take, length-append, length-drop, subst, arith, rules}
-use Rattle.std.proofs.lemmas.List.{length-take, drop-drop}
+use Rattle.std.proofs.Common.{◌≡◌, ◌+◌, ◌≤◌, ◌∙◌, ℕ, List, IsTrue, drop, length, length-append, length-drop, subst, arith, rules}
+use Rattle.std.proofs.lemmas.List.{length-take}
 use Rattle.glacier_disk.specs.RawFiles.{ReadsAt}
 use Rattle.glacier_disk.proofs.FillLemmas.{piece_more}
 use Rattle.glacier_disk.proofs.area_file.AreaFile.read.Goals as goal

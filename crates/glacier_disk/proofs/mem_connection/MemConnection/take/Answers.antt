@@ -1,4 +1,4 @@
-use Rattle.std.proofs.Common.{rules, ◌≡◌, ◌∙◌, ◌+◌, ◌-◌, [], ◌∷◌, ◌++◌, arith, ap, sym, refl, List, ℕ, min, length, take, drop}
+use Rattle.std.proofs.Common.{rules, ◌≡◌, ◌∙◌, ◌+◌, ◌-◌, ◌++◌, arith, ap, sym, refl, List, ℕ, min, length, take, drop}
 use Rattle.std.proofs.lemmas.List.{take_at}
 use Rattle.glacier_disk.proofs.MemConnectionLemmas.{coming-next, taken-next}
 use Rattle.glacier_disk.proofs.mem_connection.MemConnection.take.Goals as goal
