@@ -61,10 +61,8 @@ def signed(
 def reply(status, reason, fields, body="", later=0, close=""):
     date = format_datetime(datetime.fromtimestamp(READING + later, timezone.utc), usegmt=True)
     kind = "Content-Type: application/json\r\n" if body else ""
-    return (
-        f"HTTP/1.1 {status} {reason}\r\nDate: {date}\r\n{fields}{kind}{close}"
-        f"Content-Length: {len(body)}\r\n\r\n{body}"
-    )
+    length = "" if status == 204 else f"Content-Length: {len(body)}\r\n"
+    return f"HTTP/1.1 {status} {reason}\r\nDate: {date}\r\n{fields}{kind}{close}{length}\r\n{body}"
 
 
 def refusal(status, code, message, later=0, close=""):
@@ -73,8 +71,8 @@ def refusal(status, code, message, later=0, close=""):
     return reply(status, reason, "", body, later, close)
 
 
-def made(later=0):
-    return reply(201, "Created", "Location: /111122223333/vaults/examplevault\r\n", "", later)
+def made(later=0, name="examplevault"):
+    return reply(201, "Created", f"Location: /111122223333/vaults/{name}\r\n", "", later)
 
 
 PUT = signed("PUT", VAULT)
@@ -103,13 +101,20 @@ REQUESTS = {
     "PUT_OF_NO_DIGEST": signed("PUT", VAULT, [(HASH, "x")], "x"),
     "PUT_WITHOUT_DIGEST": signed("PUT", VAULT, length=LONG),
     "PUT_OF_A_LONG_BODY": signed("PUT", VAULT, [(HASH, LONG_HASH)], LONG_HASH, length=LONG),
+    "PUT_VAULT": signed("PUT", V),
     "DELETE_VAULT": signed("DELETE", V),
+    "DELETE": signed("DELETE", VAULT),
+    "DELETE_NO_SUCH": signed("DELETE", "/-/vaults/nosuch"),
+    "DELETE_BY_OTHER": signed("DELETE", VAULT, by=SECOND),
+    "DELETE_OF_FIRST_BY_OTHER": signed("DELETE", "/111122223333/vaults/examplevault", by=SECOND),
+    "POST_VAULT": signed("POST", V),
     "PUT_VAULT_ELSEWHERE": signed("PUT", "/111122223333/vault/v"),
     "PUT_BELOW_VAULT": signed("PUT", V + "/"),
     "GET_VAULTS": signed("GET", "/111122223333/vaults"),
     "GET_OF_11_DIGITS": signed("GET", "/11112222333/vaults/v"),
     "POST_NO_NAME": signed("POST", "/111122223333/vaults/"),
     "PUT_NO_NAME": signed("PUT", "/-/vaults/"),
+    "DELETE_NO_NAME": signed("DELETE", "/-/vaults/"),
     "GET_TWO_DOTS": signed("GET", "/111122223333/vaults/.."),
     "GET_TILDE": signed("GET", "/111122223333/vaults/a~b"),
     "PUT_BAD_NAME_OF_OTHER": signed("PUT", "/444455556666/vaults/.."),
@@ -123,6 +128,7 @@ REQUESTS = {
 REPLIES = {
     "MADE": made(),
     "MADE_LATER": made(900),
+    "MADE_VAULT": made(0, "v"),
     "DESCRIBED": reply(
         200,
         "OK",
@@ -131,6 +137,7 @@ REPLIES = {
         '"SizeInBytes":0,"VaultARN":"arn:aws:glacier:us-east-1:111122223333:vaults/examplevault",'
         '"VaultName":"examplevault"}',
     ),
+    "DELETED": reply(204, "No Content", ""),
     "NO_SUCH": refusal(404, "ResourceNotFoundException", "Vault not found: nosuch"),
     "NO_VAULT": refusal(404, "ResourceNotFoundException", "Vault not found: examplevault"),
     "NO_VAULT_AND_CLOSE": refusal(

@@ -1,5 +1,6 @@
 pub mod AsciiTexts
 pub mod EventLemmas
+pub mod Fitting
 pub mod Floats
 pub mod HeaderLemmas
 pub mod NameLemmas

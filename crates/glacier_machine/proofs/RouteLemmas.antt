@@ -7,12 +7,12 @@ use Rattle.glacier_base.specs.Names.{is_account, is_digit, is_vault_name, where_
 use Rattle.glacier_base.proofs.LackLemmas.{lacks, lacks_from, lacks_from_not}
 use Rattle.glacier_http.specs.View.{HeadText}
 use Rattle.glacier_machine.specs.declared.routes.Op.{Op}
-use Rattle.glacier_machine.specs.declared.routes.Op.TheVariants.{CreateVault, DescribeVault}
+use Rattle.glacier_machine.specs.declared.routes.Op.TheVariants.{CreateVault, DescribeVault, DeleteVault}
 use Rattle.glacier_machine.specs.declared.routes.Route.{Route}
 use Rattle.glacier_machine.specs.declared.routes.RouteStep.{RouteStep}
 use Rattle.glacier_machine.specs.declared.routes.RouteStep.TheVariants as found
 use Rattle.glacier_machine.specs.declared.routing.VaultOp.{VaultOp}
-use Rattle.glacier_machine.specs.declared.routing.VaultOp.TheVariants.{Create, Describe}
+use Rattle.glacier_machine.specs.declared.routing.VaultOp.TheVariants.{Create, Describe, Delete}
 use Rattle.glacier_machine.specs.Paths.{IsAccountWord, IsOp, AsksFor}
 use Rattle.glacier_machine.specs.Routes.{pieces, account_of, vault_op, op_on, vault_path, op_route, account_route, path_route, route_of}
 use Rattle.glacier_machine.proofs.PathLemmas.{location_pieces, path_is_location}
@@ -53,19 +53,34 @@ op_asked : (method name : List ℕ) (op : Op) → IsOp method name op
     → (kind : VaultOp) × (vault_op method ≡ Some kind) × (op_on kind name ≡ op)
 op_asked method name (CreateVault vault) is = (Create, ap vault_op is.0, ap CreateVault (sym is.1))
 op_asked method name (DescribeVault vault) is = (Describe, ap vault_op is.0, ap DescribeVault (sym is.1))
+op_asked method name (DeleteVault vault) is = (Delete, ap vault_op is.0, ap DeleteVault (sym is.1))
 
 asked_op : (method name : List ℕ) (kind : VaultOp) → vault_op method ≡ Some kind → IsOp method name (op_on kind name)
-asked_op method name kind is = go (bytes_eq method (codes "PUT")) refl (bytes_eq method (codes "GET")) refl is
+asked_op method name kind is = by_put (bytes_eq method (codes "PUT")) refl is
   where
-    go : (p : Bool) → bytes_eq method (codes "PUT") ≡ p → (g : Bool) → bytes_eq method (codes "GET") ≡ g
-        → cond p (Some Create) (cond g (Some Describe) None) ≡ Some kind → IsOp method name (op_on kind name)
-    go true e g f is =
+    by_delete : (d : Bool) → bytes_eq method (codes "DELETE") ≡ d → cond d (Some Delete) None ≡ Some kind
+        → IsOp method name (op_on kind name)
+    by_delete true e is =
+        let same : Delete ≡ kind = cc in
+        subst (λ k. IsOp method name (op_on k name)) same ((bytes_eq-Decides method (codes "DELETE")).0 e, refl)
+    by_delete false e is = cc
+
+    by_get : (g : Bool) → bytes_eq method (codes "GET") ≡ g
+        → cond g (Some Describe) (cond (bytes_eq method (codes "DELETE")) (Some Delete) None) ≡ Some kind
+        → IsOp method name (op_on kind name)
+    by_get true e is =
+        let same : Describe ≡ kind = cc in
+        subst (λ k. IsOp method name (op_on k name)) same ((bytes_eq-Decides method (codes "GET")).0 e, refl)
+    by_get false e is = by_delete (bytes_eq method (codes "DELETE")) refl is
+
+    by_put : (p : Bool) → bytes_eq method (codes "PUT") ≡ p
+        → cond p (Some Create) (cond (bytes_eq method (codes "GET")) (Some Describe)
+        (cond (bytes_eq method (codes "DELETE")) (Some Delete) None)) ≡ Some kind
+        → IsOp method name (op_on kind name)
+    by_put true e is =
         let same : Create ≡ kind = cc in
         subst (λ k. IsOp method name (op_on k name)) same ((bytes_eq-Decides method (codes "PUT")).0 e, refl)
-    go false e true f is =
-        let same : Describe ≡ kind = cc in
-        subst (λ k. IsOp method name (op_on k name)) same ((bytes_eq-Decides method (codes "GET")).0 f, refl)
-    go false e false f is = cc
+    by_put false e is = by_get (bytes_eq method (codes "GET")) refl is
 
 module _ (head : HeadText) where
   -- the route of what is asked for, which is bad where the name breaks its rule

@@ -1,5 +1,5 @@
 -- One step of an account's machine: what an action is answered, and the state that it leaves.
-use Rattle.std.specs.Prelude.{ℕ, Option, Some, None, Result, Ok, Err}
+use Rattle.std.specs.Prelude.{ℕ, Bool, ◌&&◌, not, nat_le, if◌then◌else◌, Option, Some, None, Result, Ok, Err}
 use Rattle.std.specs.FinMap as map
 use Rattle.glacier_http.specs.declared.reply.Reply.{Reply}
 use Rattle.glacier_vault.specs.declared.event.Change.{Change}
@@ -9,11 +9,11 @@ use Rattle.glacier_vault.specs.declared.refusal.Refusal.{Refusal}
 use Rattle.glacier_vault.specs.declared.rules.Rules.{Rules}
 use Rattle.glacier_vault.specs.declared.state.AccountState.{AccountState}
 use Rattle.glacier_vault.specs.Account.{new_vault}
-use Rattle.glacier_vault.specs.Rows.{Row, no_change, create_row, found}
+use Rattle.glacier_vault.specs.Rows.{Row, no_change, create_row, delete_row, found}
 use Rattle.glacier_machine.specs.declared.action.Action.{Action}
-use Rattle.glacier_machine.specs.declared.action.Action.TheVariants.{CreateVault, DescribeVault}
+use Rattle.glacier_machine.specs.declared.action.Action.TheVariants.{CreateVault, DescribeVault, DeleteVault}
 use Rattle.glacier_machine.specs.declared.action.Answer.{Answer}
-use Rattle.glacier_machine.specs.Replies.{refused, created, described}
+use Rattle.glacier_machine.specs.Replies.{refused, created, deleted, described}
 
 -- what an action is answered, and the state after it
 pub record Step : Type 0 where
@@ -38,13 +38,37 @@ by_look before (Err refusal) reply = only_replies before (refused refusal)
 abbrev pub step_of : Rules → ℕ → Action → AccountState → Step
 step_of rules m (CreateVault name) before = by_row before (create_row before m name) (created rules name)
 step_of rules m (DescribeVault name) before = by_look before (found before name) (described rules name)
+step_of rules m (DeleteVault name) before = by_row before (delete_row before m name) deleted
 
 -- an account after an event at the moment m
 abbrev pub after_event : ℕ → AccountState → Event → AccountState
+after_event m account event.Pass = record account { last = m }
 after_event m account (event.CreateVault name) =
     record account { last = m; vaults = map.insert account.vaults name (new_vault m) }
+after_event m account (event.DeleteVault name) =
+    record account { last = m; vaults = map.remove account.vaults name }
 
 -- the same after an event that may be missing
 abbrev pub after_change : ℕ → AccountState → Option Event → AccountState
 after_change m account None = account
 after_change m account (Some happened) = after_event m account happened
+
+-- the event of time that passes until the moment m, before a request at m is done: there is none, since nothing
+-- that an account has waits for a moment yet
+abbrev pub pass_event : ℕ → AccountState → Option Event
+pass_event m account = None
+
+-- the account as that leaves it
+abbrev pub after_pass : ℕ → AccountState → AccountState
+after_pass m account = after_change m account (pass_event m account)
+
+-- whether an event fits an account at the moment m: time doesn't run back, a vault that is made isn't there, and
+-- one that goes is
+abbrev pub fits : ℕ → AccountState → Event → Bool
+fits m account event.Pass = nat_le account.last m
+fits m account (event.CreateVault name) = nat_le account.last m && not (map.contains_key account.vaults name)
+fits m account (event.DeleteVault name) = nat_le account.last m && map.contains_key account.vaults name
+
+-- the account after an event that is done again: one that doesn't fit leaves it as it is
+abbrev pub after_fitting : ℕ → AccountState → Event → AccountState
+after_fitting m account happened = if fits m account happened then after_event m account happened else account

@@ -13,7 +13,7 @@ use Rattle.glacier_vault.specs.declared.state.AccountState.{AccountState}
 use Rattle.glacier_vault.specs.Account.{empty_account}
 use Rattle.glacier_machine.specs.declared.action.Request.{Request}
 use Rattle.glacier_machine.specs.declared.config.Config.{Config}
-use Rattle.glacier_machine.specs.AccountSteps.{Step, step_of, after_event}
+use Rattle.glacier_machine.specs.AccountSteps.{Step, step_of, after_event, pass_event, after_pass}
 use Rattle.glacier_machine.specs.Refusals.{head_refusal}
 use Rattle.glacier_machine.specs.Replies.{refused}
 use Rattle.glacier_machine.specs.SignedRequests.{request_in}
@@ -61,15 +61,24 @@ abbrev pub step_outcome : List ℕ → ℕ → Step → Outcome
 step_outcome account m step =
     record { reply = step.answer.reply; events = events_of account m step.answer.change.event }
 
+-- the same outcome behind the event of time that passes, if it has one
+abbrev pub behind_pass : List ℕ → ℕ → Option Event → Outcome → Outcome
+behind_pass account m passed outcome =
+    record { reply = outcome.reply; events = events_of account m passed ++ outcome.events }
+
 -- the moment of a message: the clock's reading, or the account's last moment where that is later
 abbrev pub moment_of : AccountState → ℕ → ℕ
 moment_of before reading = max before.last reading
 
+-- the outcome of a request at the moment m: time passes until then, and the step is on the account that this leaves
+abbrev pub outcome_at : Rules → ℕ → Request → AccountState → Outcome
+outcome_at rules m request before =
+    behind_pass request.account m (pass_event m before)
+    (step_outcome request.account m (step_of rules m request.action (after_pass m before)))
+
 -- the outcome of a request where the account's state is this
 abbrev pub action_outcome : Rules → AccountState → Request → ℕ → Outcome
-action_outcome rules before request reading =
-    step_outcome request.account (moment_of before reading)
-    (step_of rules (moment_of before reading) request.action before)
+action_outcome rules before request reading = outcome_at rules (moment_of before reading) request before
 
 -- what holds for the requests of an account
 abbrev pub rules_of : Config → List ℕ → Rules

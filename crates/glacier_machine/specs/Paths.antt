@@ -4,7 +4,7 @@ use Rattle.std.specs.List.{Contains}
 use Rattle.glacier_base.specs.Names.{is_account}
 use Rattle.glacier_http.specs.View.{HeadText}
 use Rattle.glacier_machine.specs.declared.routes.Op.{Op}
-use Rattle.glacier_machine.specs.declared.routes.Op.TheVariants.{CreateVault, DescribeVault}
+use Rattle.glacier_machine.specs.declared.routes.Op.TheVariants.{CreateVault, DescribeVault, DeleteVault}
 use Rattle.glacier_machine.specs.declared.routes.Route.{Route}
 
 -- a path names the account by this word: its 12 digits, or `-` for the caller's own
@@ -20,6 +20,7 @@ location account name = codes "/" ++ account ++ codes "/vaults/" ++ name
 abbrev pub IsOp : List ℕ → List ℕ → Op → Type 0
 IsOp method name (CreateVault vault) = (method ≡ codes "PUT") × (vault ≡ name)
 IsOp method name (DescribeVault vault) = (method ≡ codes "GET") × (vault ≡ name)
+IsOp method name (DeleteVault vault) = (method ≡ codes "DELETE") × (vault ≡ name)
 
 -- the head asks for the operation and the account of the route, on the vault of this name, which
 -- may break the rule of names

@@ -1,0 +1,5 @@
+use Rattle.glacier_vault.proofs.DeleteLemmas.{deleted_once}
+use Rattle.glacier_vault.proofs.laws.deleted_once.Goals as goal
+
+pub returns : goal.returns
+returns c = deleted_once

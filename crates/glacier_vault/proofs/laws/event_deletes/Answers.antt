@@ -1,0 +1,5 @@
+use Rattle.glacier_vault.proofs.DeleteLemmas.{event_deletes}
+use Rattle.glacier_vault.proofs.laws.event_deletes.Goals as goal
+
+pub returns : goal.returns
+returns c = event_deletes
