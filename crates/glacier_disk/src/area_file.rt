@@ -19,7 +19,7 @@ pub struct AreaFile<F: RawFile + Drop> {
 
 impl<F: RawFile + Drop> AreaFile<F> {
     /// A file that was just opened: nothing is known to be stable.
-    pub(crate) fn new(file: F) -> AreaFile<F>
+    pub fn new(file: F) -> AreaFile<F>
         ensures { result.file ≡ file }
     {
         AreaFile {
@@ -29,7 +29,7 @@ impl<F: RawFile + Drop> AreaFile<F> {
     }
 
     /// Its length in bytes. One of 2^63 or more is a fault.
-    pub(crate) fn size(&mut self) -> Result<u64, Failed>
+    pub fn size(&mut self) -> Result<u64, Failed>
         ensures size { IsTrue F.tells → IfOk result (λ n. n ≡ length (F.content self.old.file)) }
         ensures within { IfOk result (λ n. n < 2 ^ 63) }
         ensures same { IsTrue F.tells → F.content self.new.file ≡ F.content self.old.file }
@@ -60,7 +60,7 @@ impl<F: RawFile + Drop> AreaFile<F> {
     }
 
     /// Fills `into` whole, with zeros past the end.
-    pub(crate) fn read(&mut self, at: u64, into: &mut [u8]) -> Result<(), Failed>
+    pub fn read(&mut self, at: u64, into: &mut [u8]) -> Result<(), Failed>
         ensures bytes { IsTrue F.tells →
             OnOk result (into.new ≡ window (F.content self.old.file) at (length into.old)) }
         ensures same { IsTrue F.tells → F.content self.new.file ≡ F.content self.old.file }
@@ -84,7 +84,7 @@ impl<F: RawFile + Drop> AreaFile<F> {
     }
 
     /// Writes all bytes. No bytes past the end lengthen the file too, as bytes would.
-    pub(crate) fn write(&mut self, at: u64, bytes: &[u8]) -> Result<(), Failed>
+    pub fn write(&mut self, at: u64, bytes: &[u8]) -> Result<(), Failed>
         ensures { IsTrue F.tells → OnOk result
             (F.content self.new.file ≡ put at bytes.now (F.content self.old.file)) }
     {
@@ -99,7 +99,7 @@ impl<F: RawFile + Drop> AreaFile<F> {
     }
 
     /// Cuts it to a length. A length past the end fills it up with zeros.
-    pub(crate) fn cut(&mut self, length: u64) -> Result<(), Failed>
+    pub fn cut(&mut self, length: u64) -> Result<(), Failed>
         ensures { IsTrue F.tells →
             OnOk result (F.content self.new.file ≡ padded length (F.content self.old.file)) }
     {
@@ -111,7 +111,7 @@ impl<F: RawFile + Drop> AreaFile<F> {
     }
 
     /// Makes its bytes stable. One that hasn't changed since it last did so is skipped.
-    pub(crate) fn sync(&mut self) -> Result<(), Failed>
+    pub fn sync(&mut self) -> Result<(), Failed>
         ensures durable { IsTrue F.tells →
             OnOk result (F.stable self.new.file ≡ F.content self.new.file) }
         ensures same { IsTrue F.tells → F.content self.new.file ≡ F.content self.old.file }
