@@ -1,0 +1,5 @@
+pub mod CodecLemmas
+mod Examples
+pub mod FieldLemmas
+pub mod OptionLemmas
+pub mod RecordLaws

@@ -1,0 +1,5 @@
+pub mod Codec
+pub mod Fields
+pub mod Reading
+pub mod Spells
+pub mod Taken

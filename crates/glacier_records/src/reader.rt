@@ -1,0 +1,103 @@
+// Reading the fields of records from left to right.
+ghost use Rattle.std.specs.Prelude.{◌≡◌, ◌==◌, length, IfOk};
+ghost use Rattle.std.specs.Int.{w8, w64};
+ghost use Rattle.glacier_records.specs.Codec.{number, exactly};
+ghost use Rattle.glacier_records.specs.Fields.{account_field, moment_field, name_field};
+ghost use Rattle.glacier_records.specs.Taken.{Takes, lent};
+
+use crate::unread::Unread;
+use glacier_base::{Account, Moment, VaultName};
+use std::marker::Model;
+
+/// Bytes that are read from the front, which contracts see as those that are left.
+#[derive(Drop)]
+pub(crate) struct Reader<'a> {
+    rest: &'a [u8],
+}
+
+impl<'a> Model for Reader<'a> {
+    ghost use Rattle.std.specs.Prelude.{List, ℕ};
+
+    ghost Value = { List ℕ };
+
+    ghost view = { λ reader. reader.rest.now };
+}
+
+impl<'a> Reader<'a> {
+    pub(crate) fn new(bytes: &'a [u8]) -> Self
+        ensures { result ≡ bytes.now }
+    {
+        Reader { rest: bytes }
+    }
+
+    /// So many bytes.
+    fn bytes(&mut self, count: usize) -> Result<&'a [u8], Unread>
+        ensures taken { Takes ((exactly count).read self.old) (lent result) self.new }
+        ensures length { IfOk result (λ bytes. length bytes.now ≡ count) }
+    {
+        if self.rest.len() < count {
+            return Err(Unread::NoValue);
+        }
+        let (front, rest) = self.rest.split_at(count);
+        self.rest = rest;
+        Ok(front)
+    }
+
+    pub(crate) fn byte(&mut self) -> Result<u8, Unread>
+        ensures { Takes ((number w8).read self.old) result self.new }
+    {
+        let front = self.bytes(1)?;
+        Ok(front[0])
+    }
+
+    /// A number of eight bytes, its highest byte first.
+    fn u64(&mut self) -> Result<u64, Unread>
+        ensures { Takes ((number w64).read self.old) result self.new }
+    {
+        let front = self.bytes(8)?;
+        Ok(u64::from_be_bytes([
+            front[0], front[1], front[2], front[3], front[4], front[5], front[6], front[7],
+        ]))
+    }
+
+    /// An account's twelve digits.
+    pub(crate) fn account(&mut self) -> Result<Account, Unread>
+        ensures { Takes (account_field.read self.old) result self.new }
+    {
+        let digits = self.bytes(12)?;
+        match Account::parse(digits) {
+            Some(account) => Ok(account),
+            None => Err(Unread::NoValue),
+        }
+    }
+
+    /// A moment in seconds.
+    pub(crate) fn moment(&mut self) -> Result<Moment, Unread>
+        ensures { Takes (moment_field.read self.old) result self.new }
+    {
+        let seconds = self.u64()?;
+        match Moment::new(seconds) {
+            Some(moment) => Ok(moment),
+            None => Err(Unread::NoValue),
+        }
+    }
+
+    /// A vault's name, behind its length.
+    pub(crate) fn name(&mut self) -> Result<VaultName, Unread>
+        ensures { Takes (name_field.read self.old) result self.new }
+    {
+        let length = self.byte()?;
+        let text = self.bytes(length as usize)?;
+        match VaultName::parse(text) {
+            Some(name) => Ok(name),
+            None => Err(Unread::NoValue),
+        }
+    }
+
+    /// Whether no bytes are left.
+    pub(crate) fn is_done(&self) -> bool
+        ensures { result ≡ (length self.now == 0) }
+    {
+        self.rest.is_empty()
+    }
+}
