@@ -1,0 +1,10 @@
+pub mod AppendLemmas
+pub mod CreateLemmas
+pub mod FrameLemmas
+pub mod HeadLemmas
+pub mod ListLemmas
+pub mod OneList
+pub mod PickLemmas
+pub mod ReadLemmas
+pub mod SwapLemmas
+pub mod SyncLemmas
