@@ -1,0 +1,7 @@
+pub mod AccountLemmas
+pub mod CommitLemmas
+pub mod EventLemmas
+pub mod OpenLemmas
+pub mod PlaceLemmas
+pub mod ReplayedLemmas
+pub mod StandsLemmas

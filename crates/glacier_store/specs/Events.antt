@@ -1,0 +1,41 @@
+-- The events of a call, the state after them, and the room that they take.
+use Rattle.std.specs.Prelude.{ℕ, ◌+◌, List, [], ◌∷◌, length}
+use Rattle.glacier_machine.specs.declared.action.Action.{Action}
+use Rattle.glacier_machine.specs.AccountSteps.{step_of, pass_event}
+use Rattle.glacier_machine.specs.Outcomes.{AccountEvent, account_in, after_all, events_of, moment_of}
+use Rattle.glacier_records.specs.declared.records.Record.{Record}
+use Rattle.glacier_records.specs.Spells.{spelling}
+use Rattle.glacier_vault.specs.declared.rules.Rules.{Rules}
+use Rattle.glacier_store.specs.State.{State}
+
+-- the events of an action at the moment m
+abbrev pub action_events : Rules → ℕ → Action → State → List AccountEvent
+action_events rules m action state =
+    events_of rules.account m (step_of rules m action (account_in state rules.account)).answer.change.event
+
+-- the state after it
+abbrev pub after_action : Rules → ℕ → Action → State → State
+after_action rules m action state = after_all state (action_events rules m action state)
+
+-- the moment up to which time passes for an account, at a reading of the clock
+abbrev pub pass_moment : List ℕ → ℕ → State → ℕ
+pass_moment account reading state = moment_of (account_in state account) reading
+
+-- the events of the time that passes for it
+abbrev pub pass_events : List ℕ → ℕ → State → List AccountEvent
+pass_events account reading state =
+    events_of account (pass_moment account reading state)
+    (pass_event (pass_moment account reading state) (account_in state account))
+
+-- the state after it
+abbrev pub after_pass : List ℕ → ℕ → State → State
+after_pass account reading state = after_all state (pass_events account reading state)
+
+-- the record of an event
+abbrev pub record_of : AccountEvent → Record
+record_of happened = record { account = happened.account; moment = happened.moment; event = happened.event }
+
+-- the bytes that events take in the journal
+abbrev pub room_of : List AccountEvent → ℕ
+room_of [] = 0
+room_of (happened ∷ more) = length (spelling (record_of happened)) + 5 + room_of more

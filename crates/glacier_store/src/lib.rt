@@ -1,0 +1,14 @@
+//! The state of all accounts, kept on a disk.
+#![tactic(auto)]
+
+mod accounts;
+mod changing;
+mod fault;
+mod keeping;
+pub mod laws;
+mod replaying;
+mod store;
+
+pub use accounts::Accounts;
+pub use fault::StoreFault;
+pub use store::Store;
