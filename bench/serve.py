@@ -3,7 +3,7 @@
 
     bench/serve.py [REQUESTS]
 
-It starts the program at a free port, makes a vault, and asks for it so many times (20,000 where no number is given): on
+It starts the program at a free port (GLACIER names another program than ./glacier), makes a vault, and asks for it so many times (20,000 where no number is given): on
 connections that are kept for 1,000 requests, which is the most that one may have, and on a connection for each request.
 Each request is signed, once for the whole run, so a run may take no longer than 15 minutes. It prints requests a second, and the processor time that the server took for a request (user and system, by
 /proc/PID/stat). Then clients come that don't behave, and each time it is seen that the next one is served. Last a client
@@ -25,6 +25,7 @@ import threading
 import time
 
 ROOT = os.path.dirname(os.path.dirname(os.path.abspath(__file__)))
+PROGRAM = os.environ.get("GLACIER", f"{ROOT}/glacier")
 KEPT = 1000
 KEYS = ("111122223333", "AKIDEXAMPLE", "wJalrXUtnFEMI/K7MDENG+bPxRfiCYEXAMPLEKEY")
 PATH = "/-/vaults/bench"
@@ -214,7 +215,7 @@ def main():
     with tempfile.TemporaryDirectory() as folder:
         with open(f"{folder}/keys", "w", encoding="ascii") as it:
             it.write(" ".join(KEYS) + " 64\n")
-        words = [f"{ROOT}/glacier", "serve", folder, f"{folder}/keys", "--listen", f"127.0.0.1:{port}"]
+        words = [PROGRAM, "serve", folder, f"{folder}/keys", "--listen", f"127.0.0.1:{port}", "--new"]
         process = subprocess.Popen(words, stdout=subprocess.PIPE)
         try:
             with connected(port, 1800.0) as it:

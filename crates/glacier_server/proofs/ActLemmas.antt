@@ -1,12 +1,11 @@
 -- Acts one after another.
-use Rattle.std.proofs.Common.{◌≡◌, ℕ, List, [], ◌∷◌, ◌++◌, refl, sym, ap, subst, ◌∙◌, append_assoc}
-use Rattle.glacier_disk.specs.Network.{sent_on, on_last}
-use Rattle.glacier_disk.specs.Told.{Told}
+use Rattle.std.proofs.Common.{◌≡◌, ℕ, ◌+◌, List, [], ◌∷◌, ◌++◌, refl, sym, ap, ◌∙◌, arith, append_assoc}
+use Rattle.glacier_disk.specs.Network.{on_last}
 use Rattle.glacier_disk.proofs.Connections.{on_last-nil}
 use Rattle.glacier_machine.specs.Outcomes.{AccountEvent, after_all, after_account_event}
 use Rattle.glacier_server.specs.Acts.{Act, accept, send, keep, sends, keeps, bytes_of, events_in, sent_by, after_acts}
-use Rattle.glacier_server.specs.Machine.{State}
-use Rattle.glacier_server.specs.Transfer.{Does}
+use Rattle.glacier_store.specs.Events.{room_of}
+use Rattle.glacier_store.specs.State.{State}
 
 -- the parts of acts one after another
 pub bytes_of-append : (first more : List Act) → bytes_of (first ++ more) ≡ bytes_of first ++ bytes_of more
@@ -81,44 +80,11 @@ pub after-keeps : (state : State) (events : List AccountEvent)
     → after_acts state (keeps events) ≡ after_all state events
 after-keeps state events = ap (after_all state) (events_in-keeps events)
 
--- no call at all
-pub does_nothing : (s : Told) (state : State) → Does s s state state []
-does_nothing s state = record { all_sent = refl; after_is = refl }
+-- the room that events one after another take
+pub room_of-append : (first more : List AccountEvent) → room_of (first ++ more) ≡ room_of first + room_of more
+room_of-append [] more = omega arith
+room_of-append (h ∷ first) more = omega (arith, room_of-append first more)
 
--- one stretch after another
-pub does_then : {a b c : Told} {s m e : State} {first more : List Act} → Does a b s m first → Does b c m e more
-    → Does a c s e (first ++ more)
-does_then {a = a} {s = s} {first = first} {more = more} x y = record {
-  all_sent = y.all_sent ∙ ap (sent_by more) x.all_sent ∙ sym (sent_by-append first more (sent_on a.connections));
-  after_is = y.after_is ∙ ap (λ (k : State). after_acts k more) x.after_is ∙ sym (after_acts-append s first more);
-}
-
--- the same acts, said otherwise
-pub does_says : {a b : Told} {s e : State} {acts others : List Act} → acts ≡ others → Does a b s e acts
-    → Does a b s e others
-does_says {a = a} {b = b} {s = s} {e = e} same does = subst (λ (l : List Act). Does a b s e l) same does
-
--- a call in which nothing is sent, or these bytes are
-pub does_quiet : {old new : Told} (state : State) → sent_on new.connections ≡ sent_on old.connections
-    → Does old new state state []
-does_quiet state same = record { all_sent = same; after_is = refl }
-
-pub does_send : {old new : Told} (state : State) (bytes : List ℕ)
-    → sent_on new.connections ≡ on_last bytes (sent_on old.connections) → Does old new state state (sends bytes)
-does_send {old = old} state bytes more = record {
-  all_sent = more ∙ sym (sent_by-sends bytes (sent_on old.connections));
-  after_is = sym (after-sends state bytes);
-}
-
--- `accept`
-pub does_accept : {old new : Told} (state : State) → sent_on new.connections ≡ sent_on old.connections ++ [] ∷ []
-    → Does old new state state (accept ∷ [])
-does_accept state more = record { all_sent = more; after_is = refl }
-
--- events are kept, and no call is made
-pub does_keep : (s : Told) (state after : State) (events : List AccountEvent) → after ≡ after_all state events
-    → Does s s state after (keeps events)
-does_keep s state after events is = record {
-  all_sent = sym (sent_by-keeps events (sent_on s.connections));
-  after_is = is ∙ sym (after-keeps state events);
-}
+pub room-append : (first more : List Act)
+    → room_of (events_in (first ++ more)) ≡ room_of (events_in first) + room_of (events_in more)
+room-append first more = ap room_of (events_in-append first more) ∙ room_of-append (events_in first) (events_in more)

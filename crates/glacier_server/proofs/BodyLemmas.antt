@@ -3,7 +3,8 @@ use Rattle.std.proofs.Common.{◌≡◌, ℕ, ◌-◌, ◌+◌, ◌<◌, ◌≤�
 use Rattle.std.specs.Prelude.{Result, Ok, Err, IfOk}
 use Rattle.glacier_disk.specs.Told.{Told}
 use Rattle.glacier_machine.specs.declared.content_hash.TheConstants.{MOST_BODY}
-use Rattle.glacier_server.specs.Transfer.{TakesBehind, TakesBody, TakesOf, nothing}
+use Rattle.glacier_server.specs.Transfer.{TakesBehind, TakesBody, TakesOf}
+use Rattle.glacier_server.specs.Does.{nothing}
 use Rattle.glacier_server.proofs.TransferLemmas.{of_behind}
 
 module _ (a b : Told) (here : List ℕ) (missing size : ℕ) (sized : size ≡ length here + missing) where

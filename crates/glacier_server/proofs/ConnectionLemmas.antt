@@ -5,53 +5,59 @@ use Rattle.glacier_disk.specs.Network.{Wait, wait_of}
 use Rattle.glacier_disk.specs.Told.{Told}
 use Rattle.glacier_machine.specs.declared.config.Config.{Config}
 use Rattle.glacier_server.specs.declared.end.End.{End}
-use Rattle.glacier_server.specs.Exchange.{Standing, standing, Exchanges, BreaksOff, Idles, exchange_on}
-use Rattle.glacier_server.specs.Machine.{State}
-use Rattle.glacier_server.specs.Served.{ServedLast, PartLast, IsPrompt, Stops}
+use Rattle.glacier_server.specs.declared.end.ServeFault.{ServeFault}
+use Rattle.glacier_server.specs.declared.end.ServeFault.TheVariants.{Memory}
+use Rattle.glacier_server.specs.Exchange.{Standing, standing, Exchanges, Idles, exchange_on}
+use Rattle.glacier_server.specs.Breaking.{BreaksOff}
+use Rattle.glacier_server.specs.Served.{ServedLast, IsPrompt, Stops}
+use Rattle.glacier_server.specs.Breaking.{PartLast}
 use Rattle.glacier_server.specs.Session.{Session, taking, HeldWaiting}
-use Rattle.glacier_server.specs.Transfer.{Transfer, nothing, current}
-use Rattle.glacier_server.proofs.RunLemmas.{SoFar, goes_on, stops, breaks, breaks_none, served, part_none, nothing_none}
+use Rattle.glacier_server.specs.Transfer.{Transfer, current}
+use Rattle.glacier_server.specs.Does.{nothing}
+use Rattle.glacier_server.proofs.RunLemmas.{SoFar, goes_on, stops, breaks, served, part_none, nothing_none}
+use Rattle.glacier_server.proofs.BrokenLemmas.{broken_by}
 use Rattle.glacier_server.proofs.RunLemmas as run
 use Rattle.glacier_server.proofs.SessionLemmas.{joined, held_then}
-use Rattle.glacier_server.proofs.TransferLemmas.{stays, then, moved}
+use Rattle.glacier_server.proofs.TransferLemmas.{stays, then, moved, breaks_off}
+use Rattle.glacier_store.specs.declared.store.Store.{Store}
 
 -- as many messages were answered on the last connection as it stands behind
-pub record SoFarLast (config : Config) (old new : Told) (state : State) (at : Standing) : Type 0 where
+pub record SoFarLast (config : Config) (old new : Told) (store : Store) (at : Standing) : Type 0 where
   pub session : Session
-  pub starts : session.before ≡ state
+  pub starts : session.before ≡ store
   pub transfer : Transfer old new session nothing
   pub so_far : SoFar config session at None
   pub prompt : IsPrompt config (wait_of (current old.connections)) session
 
-module _ {config : Config} {a : Told} {state : State} where
+module _ {config : Config} {a : Told} {store : Store} where
   -- before the first message
-  pub at_start : (unread : List ℕ) → unread ≡ [] → SoFarLast config a a state (standing 0 unread state)
+  pub at_start : (unread : List ℕ) → unread ≡ [] → SoFarLast config a a store (standing 0 unread store)
   at_start unread none = record {
-    session = taking state [] [];
+    session = taking store [] [];
     starts = refl;
-    transfer = stays a state;
-    so_far = subst (λ (l : List ℕ). SoFar config (taking state [] []) (standing 0 l state) None) (sym none)
-        (run.nothing config state);
+    transfer = stays a store;
+    so_far = subst (λ (l : List ℕ). SoFar config (taking store [] []) (standing 0 l store) None) (sym none)
+        (run.nothing config store);
     prompt = All-nil _;
   }
 
   -- no memory for the first
-  pub never_began : PartLast config a a state
+  pub never_began : PartLast config a a store Memory
   never_began = record {
-    session = taking state [] [];
+    session = taking store [] [];
     starts = refl;
-    transfer = stays a state;
-    part = part_none config state;
-    nothing = nothing_none config state;
+    transfer = breaks_off (taking store [] []) (stays a store);
+    part = part_none config store;
+    broken = nothing_none config store;
     prompt = All-nil _;
   }
 
-  module _ {b : Told} {from : Standing} (x : SoFarLast config a b state from) where
-    leads : (t : Session) → t.before ≡ from.state → t.before ≡ x.session.after
-    leads t starts = starts ∙ x.so_far.state
+  module _ {b : Told} {from : Standing} (x : SoFarLast config a b store from) where
+    leads : (t : Session) → t.before ≡ from.store → t.before ≡ x.session.after
+    leads t starts = starts ∙ x.so_far.store
 
     -- at each wait of an exchange, all was done that was due
-    prompt_then : (t : Session) → t.before ≡ from.state
+    prompt_then : (t : Session) → t.before ≡ from.store
         → HeldWaiting (wait_of (current b.connections)) t (λ till. Idles (exchange_on from [] [] till))
         → IsPrompt config (wait_of (current a.connections)) (joined x.session t)
     prompt_then t starts idle =
@@ -63,7 +69,7 @@ module _ {config : Config} {a : Told} {state : State} where
 
     -- one more
     pub one_more_last : {c : Told} (to : Standing) → from.count + 1 ≡ to.count → Exchanges config from to b c None
-        → SoFarLast config a c state to
+        → SoFarLast config a c store to
     one_more_last {c = c} to counts y =
         let next = goes_on config x.session y.session from x.so_far y.starts to.unread
         (current c.connections).coming None y.exchange.0 in record {
@@ -73,13 +79,13 @@ module _ {config : Config} {a : Told} {state : State} where
           so_far = subst (λ (k : Standing). SoFar config (joined x.session y.session) k None)
               (ap (λ (n : ℕ). standing n y.exchange.0.rest y.session.after) counts
               ∙ ap (λ (l : List ℕ). standing to.count l y.session.after) y.exchange.1
-              ∙ ap (λ (k : State). standing to.count to.unread k) y.leaves) next;
+              ∙ ap (λ (k : Store). standing to.count to.unread k) y.leaves) next;
           prompt = prompt_then y.session y.starts y.idle;
         }
 
     -- the end
     pub served_last : {c : Told} {to : Standing} {e : End} → Exchanges config from to b c (Some e)
-        → ServedLast config a c state to.state e
+        → ServedLast config a c store to.store e
     served_last {c = c} {to = to} {e = e} y =
         let moves = then x.session y.session (leads y.session y.starts) x.transfer y.transfer in record {
           session = joined x.session y.session;
@@ -91,14 +97,16 @@ module _ {config : Config} {a : Told} {state : State} where
           prompt = prompt_then y.session y.starts y.idle;
         }
 
-    -- no memory for one more
-    pub part_last : {c : Told} → BreaksOff config from b c → PartLast config a c state
-    part_last y =
+    -- the server broke off
+    pub part_last : {c : Told} {fault : ServeFault} → BreaksOff config from b c fault
+        → PartLast config a c store fault
+    part_last {fault = fault} y =
         let moves = then x.session y.session (leads y.session y.starts) x.transfer y.transfer in record {
           session = joined x.session y.session;
           starts = x.starts;
           transfer = moves;
           part = breaks config x.session y.session from x.so_far y.starts [] [] y.part moves.does.after_is;
-          nothing = breaks_none config x.session y.session from x.so_far y.starts [] [] y.part moves.does.after_is y.nothing;
+          broken = broken_by config x.session y.session from x.so_far y.starts [] [] y.part moves.does.after_is fault
+              x.transfer.does.grew y.broken;
           prompt = prompt_then y.session y.starts y.idle;
         }

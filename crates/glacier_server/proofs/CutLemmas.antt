@@ -11,7 +11,7 @@ use Rattle.glacier_server.specs.Acts.{Act, sends, keeps, bytes_of, events_in}
 use Rattle.glacier_server.specs.Machine.{reply, after, happened}
 use Rattle.glacier_server.specs.Out.{told, run, out, interim}
 use Rattle.glacier_server.proofs.ActLemmas.{bytes_of-append, bytes_of-sends, bytes_of-keeps, events_in-append, events_in-sends}
-use Rattle.glacier_server.specs.Machine.{State}
+use Rattle.glacier_store.specs.State.{State}
 
 -- the acts for some messages, and then those for the others
 out_split : (config : Config) (n : ℕ) (state : State) (before others : List Message) (readings more : List ℕ)

@@ -12,9 +12,10 @@ use Rattle.glacier_machine.specs.declared.config.Config.{Config}
 use Rattle.glacier_server.specs.Acts.{Act, sends}
 use Rattle.glacier_server.specs.declared.end.End.{End}
 use Rattle.glacier_server.specs.Exchange.{Standing, Exchange, exchange_on, Answers, AnswersPart, IsExchange, end_for_some}
-use Rattle.glacier_server.specs.Machine.{State, reply, after, happened}
+use Rattle.glacier_server.specs.Machine.{reply, after, happened}
 use Rattle.glacier_server.specs.Out.{told}
 use Rattle.glacier_server.specs.Session.{Session}
+use Rattle.glacier_store.specs.declared.store.Store.{Store}
 
 -- the ends that a message makes
 IsLast : InputEnd → Type 0
@@ -48,7 +49,7 @@ exchange_of config x (Some refused) a left = a
 exchange_of config x (Some bound) a left = a
 
 -- what is done for one message: these bytes are taken, a reading, and then these acts
-abbrev pub answering : State → State → List ℕ → List Act → ℕ → List Wait → Session
+abbrev pub answering : Store → Store → List ℕ → List Act → ℕ → List Wait → Session
 answering before after taken acts r waits =
     record { before = before; after = after; taken = taken; acts = acts; readings = r ∷ []; waits = waits }
 
@@ -68,22 +69,22 @@ bad_closes n cause = go (n + 1 == MOST_MESSAGES)
 module _ (config : Config) (from : Standing) (r : ℕ) (cause : BadHead) (rest : List ℕ)
     (stands : BeginsBad from.unread cause rest) where
   text : List ℕ
-  text = reply config from.state (Bad cause) r true
+  text = reply config from.store.accounts (Bad cause) r true
 
-  bad_told : told config from.count from.state (Bad cause) r ≡ sends text
+  bad_told : told config from.count from.store.accounts (Bad cause) r ≡ sends text
   unfolding happened text
-  bad_told = ap (λ (b : Bool). sends (reply config from.state (Bad cause) r b)) (bad_closes from.count cause)
+  bad_told = ap (λ (b : Bool). sends (reply config from.store.accounts (Bad cause) r b)) (bad_closes from.count cause)
 
   begins_bad : Begins (from.unread ++ []) (Bad cause) rest
   begins_bad = subst (λ (l : List ℕ). BeginsBad l cause rest) (sym (append-nil from.unread)) stands
 
   pub bad_answered : (left coming : List ℕ) (e : End) → end_for_some (last_end from.count (Bad cause)) ≡ Some e
-      → after config from.state (Bad cause) r ≡ from.state
-      → IsExchange config (exchange_on from left coming (answering from.state from.state [] (sends
-      (reply config from.state (Bad cause) r true)) r [])) (Some e)
+      → after config from.store.accounts (Bad cause) r ≡ from.store.accounts
+      → IsExchange config (exchange_on from left coming (answering from.store from.store [] (sends
+      (reply config from.store.accounts (Bad cause) r true)) r [])) (Some e)
   unfolding text
   bad_answered left coming e end same =
-      let x = exchange_on from left coming (answering from.state from.state [] (sends (reply config from.state
+      let x = exchange_on from left coming (answering from.store from.store [] (sends (reply config from.store.accounts
       (Bad cause) r true)) r []) in
       subst (λ (o : Option End). IsExchange config x o) end
       (exchange_of config x (last_end from.count (Bad cause)) (record {
@@ -98,8 +99,8 @@ module _ (config : Config) (from : Standing) (r : ℕ) (cause : BadHead) (rest :
       }) (λ none. let never : None ≡ Some e = sym (ap end_for_some none) ∙ end in absurd (cc)))
 
   pub bad_part : (left coming : List ℕ) (k : ℕ)
-      → AnswersPart config (exchange_on from left coming (answering from.state from.state [] (take k (sends
-      (reply config from.state (Bad cause) r true))) r []))
+      → AnswersPart config (exchange_on from left coming (answering from.store from.store [] (take k (sends
+      (reply config from.store.accounts (Bad cause) r true))) r []))
   unfolding text
   bad_part left coming k = record {
     message = Bad cause;

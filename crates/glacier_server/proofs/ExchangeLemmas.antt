@@ -1,25 +1,29 @@
 -- What was taken for a head, and then an exchange.
-use Rattle.std.proofs.Common.{◌≡◌, ℕ, List, [], ◌∷◌, ◌++◌, Some, inr, refl, sym, ap, subst, ◌∙◌, arith, append_assoc}
+use Rattle.std.proofs.Common.{◌≡◌, ℕ, List, [], ◌∷◌, ◌++◌, take, Some, inr, refl, sym, ap, subst, ◌∙◌, arith, append_assoc}
 use Rattle.std.specs.Prelude.{Option}
 use Rattle.glacier_disk.specs.Network.{Wait, wait_of}
 use Rattle.glacier_disk.specs.Told.{Told}
 use Rattle.glacier_http.specs.Opening.{HasNoOpening}
-use Rattle.glacier_http.specs.Messages.{end_of_rest}
+use Rattle.glacier_http.specs.Messages.{Begins, end_of_rest}
 use Rattle.glacier_http.proofs.BeginLemmas.{none_waits}
 use Rattle.glacier_machine.specs.declared.config.Config.{Config}
 use Rattle.glacier_server.specs.declared.end.End.{End}
 use Rattle.glacier_server.specs.declared.end.End.TheVariants.{ReadFault}
-use Rattle.glacier_server.specs.Exchange.{Standing, standing, Exchange, exchange_on, Idles, IsExchange, AnswersPart, Exchanges, BreaksOff, end_for}
-use Rattle.glacier_server.specs.Machine.{State}
+use Rattle.glacier_server.specs.declared.end.ServeFault.{ServeFault}
+use Rattle.glacier_server.specs.Exchange.{Standing, standing, Exchange, exchange_on, Idles, IsExchange, Exchanges, end_for}
+use Rattle.glacier_server.specs.Breaking.{BreaksOff}
+use Rattle.glacier_server.specs.Out.{told}
 use Rattle.glacier_server.specs.Served.{failing_of}
 use Rattle.glacier_server.specs.Session.{Session, taking, HeldAt, HeldWaiting}
-use Rattle.glacier_server.specs.Transfer.{TakenAt, TakesBehind, Failing, nothing, receiving, NoneComing, current}
+use Rattle.glacier_server.specs.Transfer.{TakenAt, TakesBehind, NoneComing, current}
+use Rattle.glacier_server.specs.Does.{Failing, nothing, receiving}
 use Rattle.glacier_server.proofs.SessionLemmas.{joined, all_more, same_wait, held_then}
 use Rattle.glacier_server.proofs.TransferLemmas.{then, moved, fails_as}
+use Rattle.glacier_store.specs.declared.store.Store.{Store}
 
 -- no head is there yet
 need : (from : Standing) (left coming got : List ℕ) (waits : List Wait) → HasNoOpening (from.unread ++ got)
-    → Idles (exchange_on from left coming (taking from.state got waits))
+    → Idles (exchange_on from left coming (taking from.store got waits))
 need from left coming got waits none =
     record { none = none_waits (from.unread ++ got) none; same = refl; tells = refl; read = λ _ h more x. none _ _ x.opening }
 
@@ -29,102 +33,112 @@ at_the_end : (config : Config) (x : Exchange) (input : List ℕ) → x.input ≡
 at_the_end config x [] is idle none = inr (idle, sym (ap end_of_rest is), none)
 at_the_end config x (b ∷ input) is idle none = (idle, sym (ap end_of_rest is), none)
 
-module _ (n : ℕ) {a b : Told} {unread now : List ℕ} (state : State) {failing : Failing}
+module _ (n : ℕ) {a b : Told} {unread now : List ℕ} (store : Store) {failing : Failing}
     (found : TakesBehind a b unread now HasNoOpening failing) where
   -- at each wait no head was there
-  idle : HeldWaiting (wait_of (current a.connections)) (taking state found.got found.takes.waits) (λ till. Idles
-      (exchange_on (standing n unread state) [] [] till))
+  idle : HeldWaiting (wait_of (current a.connections)) (taking store found.got found.takes.waits) (λ till. Idles
+      (exchange_on (standing n unread store) [] [] till))
   idle = all_more _ _ found.takes.waits at found.takes.each
     where
       at : (w : Wait) → TakenAt (wait_of (current a.connections)) found.got (λ l. HasNoOpening (unread ++ l)) w
-          → HeldAt (wait_of (current a.connections)) (taking state found.got found.takes.waits) (λ till. Idles
-          (exchange_on (standing n unread state) [] [] till)) w
+          → HeldAt (wait_of (current a.connections)) (taking store found.got found.takes.waits) (λ till. Idles
+          (exchange_on (standing n unread store) [] [] till)) w
       at w x = record {
-        till = taking state x.till [];
+        till = taking store x.till [];
         front = record { before = refl; taken = (x.later, x.cut); acts = ([], refl); readings = ([], refl) };
         at = x.at ∙ same_wait _ _ _ _ refl (omega arith);
-        holds = need (standing n unread state) [] [] x.till [] x.holds;
+        holds = need (standing n unread store) [] [] x.till [] x.holds;
       }
 
 -- the input ended, or a receive failed, behind the bytes that were taken for a head
-module _ {config : Config} {n : ℕ} {a b : Told} {unread now : List ℕ} {state : State} where
+module _ {config : Config} {n : ℕ} {a b : Told} {unread now : List ℕ} {store : Store} where
   pub ends_behind : (e : End) → failing_of e ≡ nothing → TakesBehind a b unread now HasNoOpening nothing
-      → e ≡ end_for (end_of_rest now) → HasNoOpening now → NoneComing b → (to : Standing) → state ≡ to.state
-      → Exchanges config (standing n unread state) to a b (Some e)
+      → e ≡ end_for (end_of_rest now) → HasNoOpening now → NoneComing b → (to : Standing) → store ≡ to.store
+      → Exchanges config (standing n unread store) to a b (Some e)
   ends_behind e of_none found is none ended to same =
-      let s = taking state found.got found.takes.waits in
-      let x = exchange_on (standing n unread state) to.unread (current b.connections).coming s in record {
+      let s = taking store found.got found.takes.waits in
+      let x = exchange_on (standing n unread store) to.unread (current b.connections).coming s in record {
         session = s;
         starts = refl;
         leaves = same;
-        transfer = fails_as s nothing (failing_of e) (sym of_none) (found.takes.transfer state);
+        transfer = fails_as s nothing (failing_of e) (sym of_none) (found.takes.transfer store);
         exchange = subst (λ (f : End). IsExchange config x (Some f)) (sym is)
-            (at_the_end config x now (sym found.behind) (need (standing n unread state) to.unread
+            (at_the_end config x now (sym found.behind) (need (standing n unread store) to.unread
             (current b.connections).coming found.got found.takes.waits
             (subst HasNoOpening found.behind none)) ended);
-        idle = idle n state found;
+        idle = idle n store found;
       }
 
   pub fails_behind : TakesBehind a b unread now HasNoOpening receiving → HasNoOpening now → (to : Standing)
-      → state ≡ to.state → Exchanges config (standing n unread state) to a b (Some ReadFault)
+      → store ≡ to.store → Exchanges config (standing n unread store) to a b (Some ReadFault)
   fails_behind found none to same = record {
-    session = taking state found.got found.takes.waits;
+    session = taking store found.got found.takes.waits;
     starts = refl;
     leaves = same;
-    transfer = found.takes.transfer state;
-    exchange = need (standing n unread state) to.unread (current b.connections).coming found.got found.takes.waits
+    transfer = found.takes.transfer store;
+    exchange = need (standing n unread store) to.unread (current b.connections).coming found.got found.takes.waits
         (subst HasNoOpening found.behind none);
-    idle = idle n state found;
+    idle = idle n store found;
   }
 
 -- an exchange of what is unread then
-module _ {n : ℕ} {a b : Told} {unread now : List ℕ} {state : State}
+module _ {n : ℕ} {a b : Told} {unread now : List ℕ} {store : Store}
     (found : TakesBehind a b unread now HasNoOpening nothing) where
   -- it is one of what was unread before
-  regroup : (left coming : List ℕ) (s : Session) → s.before ≡ state
-      → exchange_on (standing n now state) left coming s ≡ exchange_on (standing n unread state) left coming (joined
-      (taking state found.got found.takes.waits) s)
+  regroup : (left coming : List ℕ) (s : Session) → s.before ≡ store
+      → exchange_on (standing n now store) left coming s ≡ exchange_on (standing n unread store) left coming (joined
+      (taking store found.got found.takes.waits) s)
   regroup left coming s starts =
-      ap (λ (l : List ℕ). record (exchange_on (standing n now state) left coming s) { input = l }) (ap (λ
+      ap (λ (l : List ℕ). record (exchange_on (standing n now store) left coming s) { input = l }) (ap (λ
       (l : List ℕ). l ++ s.taken) found.behind ∙ append_assoc unread found.got s.taken)
-      ∙ ap (λ (k : State). record (exchange_on (standing n unread state) left coming (joined
-      (taking state found.got found.takes.waits) s)) { before = k }) starts
+      ∙ ap (λ (k : Store). record (exchange_on (standing n unread store) left coming (joined
+      (taking store found.got found.takes.waits) s)) { before = k.accounts }) starts
 
-  idles_behind : (s : Session) → s.before ≡ state
+  idles_behind : (s : Session) → s.before ≡ store
       → HeldWaiting (wait_of (current b.connections)) s (λ till. Idles (exchange_on
-      (standing n now state) [] [] till))
-      → HeldWaiting (wait_of (current a.connections)) (joined (taking state found.got found.takes.waits) s)
-      (λ till. Idles (exchange_on (standing n unread state) [] [] till))
+      (standing n now store) [] [] till))
+      → HeldWaiting (wait_of (current a.connections)) (joined (taking store found.got found.takes.waits) s)
+      (λ till. Idles (exchange_on (standing n unread store) [] [] till))
   idles_behind s starts held =
-      let one = taking state found.got found.takes.waits in
+      let one = taking store found.got found.takes.waits in
       held_then (wait_of (current a.connections)) one s (λ till. Idles (exchange_on
-      (standing n unread state) [] [] till)) (λ till. Idles (exchange_on (standing n now state) [] [] till))
-      (idle n state found)
-      (subst (λ (w : Wait). HeldWaiting w s (λ till. Idles (exchange_on (standing n now state) [] [] till)))
-      (moved one (found.takes.transfer state)) held)
+      (standing n unread store) [] [] till)) (λ till. Idles (exchange_on (standing n now store) [] [] till))
+      (idle n store found)
+      (subst (λ (w : Wait). HeldWaiting w s (λ till. Idles (exchange_on (standing n now store) [] [] till)))
+      (moved one (found.takes.transfer store)) held)
       (λ u front holds. subst Idles (regroup [] [] u (front.before ∙ starts)) holds)
 
   pub exchanges_behind : {config : Config} {c : Told} {to : Standing} {end : Option End}
-      → Exchanges config (standing n now state) to b c end → Exchanges config (standing n unread state) to a c end
+      → Exchanges config (standing n now store) to b c end → Exchanges config (standing n unread store) to a c end
   exchanges_behind {config = config} {c = c} {to = to} {end = end} x = record {
-    session = joined (taking state found.got found.takes.waits) x.session;
+    session = joined (taking store found.got found.takes.waits) x.session;
     starts = refl;
     leaves = x.leaves;
-    transfer = then (taking state found.got found.takes.waits) x.session x.starts
-        (found.takes.transfer state) x.transfer;
+    transfer = then (taking store found.got found.takes.waits) x.session x.starts
+        (found.takes.transfer store) x.transfer;
     exchange = subst (λ (y : Exchange). IsExchange config y end) (regroup to.unread
         (current c.connections).coming x.session x.starts) x.exchange;
     idle = idles_behind x.session x.starts x.idle;
   }
 
-  pub breaks_behind : {config : Config} {c : Told} → BreaksOff config (standing n now state) b c
-      → BreaksOff config (standing n unread state) a c
+  pub breaks_behind : {config : Config} {c : Told} {fault : ServeFault}
+      → BreaksOff config (standing n now store) b c fault → BreaksOff config (standing n unread store) a c fault
   breaks_behind {config = config} x = record {
-    session = joined (taking state found.got found.takes.waits) x.session;
+    session = joined (taking store found.got found.takes.waits) x.session;
     starts = refl;
-    transfer = then (taking state found.got found.takes.waits) x.session x.starts
-        (found.takes.transfer state) x.transfer;
-    part = subst (λ (y : Exchange). AnswersPart config y) (regroup [] [] x.session x.starts) x.part;
-    nothing = x.nothing;
+    transfer = then (taking store found.got found.takes.waits) x.session x.starts
+        (found.takes.transfer store) x.transfer;
+    part = record {
+      message = x.part.message;
+      reading = x.part.reading;
+      rest = x.part.rest;
+      begins = subst (λ (y : Exchange). Begins y.input x.part.message x.part.rest) (regroup [] [] x.session x.starts)
+          x.part.begins;
+      one = x.part.one;
+      count = x.part.count;
+      part = x.part.part ∙ ap (λ (y : Exchange). take x.part.count (told config y.count y.before x.part.message
+          x.part.reading)) (regroup [] [] x.session x.starts);
+    };
+    broken = x.broken;
     idle = idles_behind x.session x.starts x.idle;
   }

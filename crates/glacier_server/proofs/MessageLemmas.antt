@@ -1,10 +1,10 @@
 -- The calls for a message with a good head make an exchange.
-use Rattle.std.proofs.Common.{◌≡◌, ℕ, ◌+◌, ◌-◌, ◌<◌, Bool, List, [], ◌++◌, length, take, drop, Some, sym, ap, subst, refl, ◌∙◌, arith, append-nil}
+use Rattle.std.proofs.Common.{◌≡◌, ℕ, ◌+◌, ◌-◌, ◌<◌, Bool, List, [], ◌++◌, length, take, drop, Some, Ok, Err, sym, ap, subst, refl, ◌∙◌, arith, append-nil}
 use Rattle.std.specs.Prelude.{Option}
 use Rattle.std.specs.Option.{is_some}
 use Rattle.httparse.specs.declared.spans.HeaderSpan.{HeaderSpan}
 use Rattle.glacier_disk.specs.Network.{Wait, wait_of}
-use Rattle.glacier_disk.specs.Told.{Told}
+use Rattle.glacier_disk.specs.Told.{Told, Lawful, ByDisk}
 use Rattle.glacier_http.specs.declared.head_spans.HeadSpans.{HeadSpans}
 use Rattle.glacier_http.specs.declared.head_spans.HeadStep.TheVariants as step
 use Rattle.glacier_http.specs.declared.reply.Reply.{Reply}
@@ -13,40 +13,46 @@ use Rattle.glacier_http.specs.Messages.{Message, good as Good, cut, end_of_rest}
 use Rattle.glacier_machine.specs.declared.config.Config.{Config}
 use Rattle.glacier_machine.specs.Outcomes.{one}
 use Rattle.glacier_machine.specs.SignedRequests.{IsKept}
-use Rattle.glacier_server.specs.Acts.{Act}
+use Rattle.glacier_server.specs.Acts.{Act, keeps as acts_of}
 use Rattle.glacier_server.specs.declared.end.End.{End}
 use Rattle.glacier_server.specs.declared.end.End.TheVariants.{Cut, ReadFault, SendFault}
-use Rattle.glacier_server.specs.Exchange.{Standing, exchange_on, IsExchange, Exchanges, BreaksOff, Idles, failing_at, end_of_good}
+use Rattle.glacier_server.specs.declared.end.ServeFault.{ServeFault}
+use Rattle.glacier_server.specs.Events.{KeepsEvents}
+use Rattle.glacier_server.specs.Exchange.{Standing, exchange_on, IsExchange, Exchanges, Idles, failing_at, end_of_good}
+use Rattle.glacier_server.specs.Breaking.{BreaksOff, BrokenFor}
 use Rattle.glacier_server.specs.Front.{AtFront}
-use Rattle.glacier_server.specs.Machine.{State, text_of_reply, reply, after}
+use Rattle.glacier_server.specs.Machine.{text_of_reply, reply, after, happened}
 use Rattle.glacier_server.specs.Out.{done}
+use Rattle.glacier_server.specs.Breaking.{HasBroken}
 use Rattle.glacier_server.specs.Session.{reading, acting, HeldAt, HeldWaiting}
-use Rattle.glacier_server.specs.Transfer.{Transfer, TakenAt, TakesOf, SentAll, SentPart, Failing, nothing, receiving, NoneComing, current}
+use Rattle.glacier_server.specs.Transfer.{Transfer, TakenAt, TakesOf, SentAll, SentPart, NoneComing, current}
+use Rattle.glacier_server.specs.Does.{Failing, nothing, receiving}
 use Rattle.glacier_server.proofs.AnswerLemmas.{h, behind, reads, idles, cut_is, body, body_is, body_length, said, said_is, answered, answered_part}
-use Rattle.glacier_server.proofs.CommitLemmas.{done_all, done_part}
+use Rattle.glacier_server.proofs.CommitLemmas.{committed, broke, done_all, done_part}
 use Rattle.glacier_server.proofs.EndLemmas.{answering}
 use Rattle.glacier_server.proofs.ExtentLemmas.{Extends}
 use Rattle.glacier_server.proofs.RefuseLemmas.{text_is}
 use Rattle.glacier_server.proofs.SessionLemmas.{all_more, same_wait}
 use Rattle.glacier_server.proofs.TransferLemmas.{then, acts_then, says, fails_as}
+use Rattle.glacier_store.specs.declared.store.Store.{Store}
 
 -- a good head, for which a reading was taken, and then bytes of its body
 module _ (config : Config) (from : Standing) (headers : List HeaderSpan) (spans : HeadSpans) (used left : ℕ)
     (is : IsStep from.unread headers (step.Head spans))
-    (extends : Extends from.unread spans used left) {a b c : Told} {r : ℕ} (read : (state : State)
-    → Transfer a b (reading state r) nothing) {missing : ℕ} where
+    (extends : Extends from.unread spans used left) {a b c : Told} {r : ℕ} (read : (store : Store)
+    → Transfer a b (reading store r) nothing) {missing : ℕ} where
   module _ {failing : Failing} (takes : TakesOf b c left missing failing) where
-    took : Transfer a c (answering from.state from.state takes.got [] r takes.takes.waits) failing
-    took = then (reading from.state r) _ refl (read from.state) (takes.takes.transfer from.state)
+    took : Transfer a c (answering from.store from.store takes.got [] r takes.takes.waits) failing
+    took = then (reading from.store r) _ refl (read from.store) (takes.takes.transfer from.store)
 
     -- at each wait some of the body was missing
-    idle_at : (after : State) (acts : List Act) (w : Wait)
+    idle_at : (after : Store) (acts : List Act) (w : Wait)
         → TakenAt (wait_of (current b.connections)) takes.got (λ l. length l < left) w
-        → HeldAt (wait_of (current a.connections)) (answering from.state after takes.got acts r takes.takes.waits)
+        → HeldAt (wait_of (current a.connections)) (answering from.store after takes.got acts r takes.takes.waits)
         (λ till. Idles (exchange_on from [] [] till)) w
     idle_at after acts w x =
-        let one = read from.state in record {
-          till = answering from.state from.state x.till [] r [];
+        let one = read from.store in record {
+          till = answering from.store from.store x.till [] r [];
           front = record { before = refl; taken = (x.later, x.cut); acts = (acts, refl); readings = ([], refl) };
           at = x.at ∙ same_wait _ _ _ _ (omega (
             arith,
@@ -57,29 +63,29 @@ module _ (config : Config) (from : Standing) (headers : List HeaderSpan) (spans 
               (arith, x.holds)) (omega (arith, x.holds)) [] [] [];
         }
 
-    idle : (after : State) (acts : List Act) → HeldWaiting (wait_of (current a.connections))
-        (answering from.state after takes.got acts r takes.takes.waits) (λ till. Idles (exchange_on from [] [] till))
+    idle : (after : Store) (acts : List Act) → HeldWaiting (wait_of (current a.connections))
+        (answering from.store after takes.got acts r takes.takes.waits) (λ till. Idles (exchange_on from [] [] till))
     idle after acts = all_more _ _ takes.takes.waits (idle_at after acts) takes.takes.each
 
   -- some are missing, as a receive failed
-  pub body_failed : TakesOf b c left missing receiving → 0 < missing → (to : Standing) → from.state ≡ to.state
+  pub body_failed : TakesOf b c left missing receiving → 0 < missing → (to : Standing) → from.store ≡ to.store
       → Exchanges config from to a c (Some ReadFault)
   body_failed takes some to same = record {
-    session = answering from.state from.state takes.got [] r takes.takes.waits;
+    session = answering from.store from.store takes.got [] r takes.takes.waits;
     starts = refl;
     leaves = same;
     transfer = took takes;
     exchange = idles config from headers spans used left r is extends takes.got missing takes.sum some to.unread
         (current c.connections).coming takes.takes.waits;
-    idle = idle takes from.state [];
+    idle = idle takes from.store [];
   }
 
   module _ (takes : TakesOf b c left missing nothing) where
     -- some are missing, as the input ended
     pub body_cut : 0 < missing → NoneComing c → (count : ℕ) → count ≡ length from.unread → (to : Standing)
-        → from.state ≡ to.state → Exchanges config from to a c (Some (Cut (count + (left - missing))))
+        → from.store ≡ to.store → Exchanges config from to a c (Some (Cut (count + (left - missing))))
     body_cut some none count size to same = record {
-      session = answering from.state from.state takes.got [] r takes.takes.waits;
+      session = answering from.store from.store takes.got [] r takes.takes.waits;
       starts = refl;
       leaves = same;
       transfer = took takes;
@@ -90,7 +96,7 @@ module _ (config : Config) (from : Standing) (headers : List HeaderSpan) (spans 
             (cut_is config from headers spans used left r is extends takes.got missing takes.sum),
         none,
       );
-      idle = idle takes from.state [];
+      idle = idle takes from.store [];
     }
 
     -- none are missing
@@ -114,77 +120,105 @@ module _ (config : Config) (from : Standing) (headers : List HeaderSpan) (spans 
           (body_length config from headers spans used left r is extends takes.got whole)
           keeps
 
-      -- there was no memory for the reply
-      pub reply_unmade : BreaksOff config from a c
-      reply_unmade =
-          let end = end_of_good from.count spans.close in record {
-            session = answering from.state from.state takes.got [] r takes.takes.waits;
-            starts = refl;
-            transfer = took takes;
-            part = answered_part config from headers spans used left r is extends takes.got end 0 whole refl [] [] from.state takes.takes.waits;
-            nothing = refl;
-            idle = idle takes from.state [];
-          }
-
-      module _ (end : Option End) (end_is : end ≡ end_of_good from.count spans.close)
-          (of_none : failing_at end ≡ nothing) (close : Bool) (closes : close ≡ is_some end)
-          (kept : List ℕ) (keeps : IsKept kept (body config from headers spans used left r is extends takes.got))
-          (answer : Reply) (answers : AtFront from.unread spans kept (λ m. answer ≡ (one config from.state m r).reply))
-          (new : State) (stores : AtFront from.unread spans kept (λ m. new ≡ after config from.state m r)) where
+      -- no call of the store was made for want of memory, or one broke the server off
+      module _ (end : Option End) (kept : List ℕ)
+          (keeps : IsKept kept (body config from headers spans used left r is extends takes.got)) where
         text : List Act
         text = said config from headers spans used left r is extends takes.got end
 
-        same_text : done config from.state message r close ≡ text
+        same_text : (close : Bool) → close ≡ is_some end → done config from.store.accounts message r close ≡ text
         unfolding message text
-        same_text = said_is config from headers spans used left r is extends takes.got end close closes
+        same_text close closes = said_is config from headers spans used left r is extends takes.got end close closes
 
-        printed : text_of_reply answer r close ≡ reply config from.state message r close
-        printed = text_is config from.state message r close answer (at_message kept keeps (λ m. answer ≡
-            (one config from.state m r).reply) answers)
-
-        stored : new ≡ after config from.state message r
-        stored = at_message kept keeps (λ m. new ≡ after config from.state m r) stores
-
-        -- it was sent
-        pub reply_sent : {d : Told} → SentAll c d (text_of_reply answer r close) → (to : Standing) → new ≡ to.state
-            → to.unread ≡ drop used from.unread → Exchanges config from to a d end
+        pub reply_unmade : {T : Type 0} {d : Told} (fault : ServeFault) → end ≡ end_of_good from.count spans.close
+            → Lawful d → ByDisk c d → HasBroken fault c d
+            → AtFront from.unread spans kept (λ m. KeepsEvents {T = T} c d from.store
+            (happened config from.store.accounts m r) (Err fault))
+            → BreaksOff config from a d fault
         unfolding message text
-        reply_sent {d = d} sent to leaves left_is =
-            let x = answering from.state new takes.got text r takes.takes.waits in record {
-              session = x;
+        reply_unmade {T = T} {d = d} fault end_is law alone broken each =
+            let m : Message = message in
+            let close : Bool = is_some end in
+            let broke = broke config from.store m r close {T = T} law alone fault broken (at_message kept keeps (λ m.
+            KeepsEvents {T = T} c d from.store (happened config from.store.accounts m r) (Err fault)) each) in
+            let k : ℕ = broke.0 in
+            let after : Store = broke.1 in record {
+              session = answering from.store after takes.got (take k text) r takes.takes.waits;
               starts = refl;
-              leaves = leaves;
               transfer =
-                  fails_as x nothing (failing_at end) (sym of_none)
-                  (acts_then (answering from.state from.state takes.got [] r takes.takes.waits) new text (took takes)
-                  (says (acting from.state new (done config from.state message r close)) text same_text
-                  (done_all config from.state message r close new stored
-                  (text_of_reply answer r close) printed sent)));
-              exchange = subst (λ (k : State). IsExchange config (exchange_on from to.unread
-                  (current d.connections).coming (answering from.state k takes.got text r takes.takes.waits)) end)
-                  (sym stored)
-                  (subst (λ (l : List ℕ). IsExchange config (exchange_on from l (current d.connections).coming
-                  (answering from.state (after config from.state message r) takes.got text r takes.takes.waits)) end) (sym left_is)
-                  (answered config from headers spans used left r is extends takes.got end whole end_is
-                  (current d.connections).coming takes.takes.waits));
-              idle = idle takes new text;
+                  acts_then (answering from.store from.store takes.got [] r takes.takes.waits) after (take k text)
+                  (took takes)
+                  (says (acting from.store after (take k (done config from.store.accounts m r close))) (take k text)
+                  (ap (λ (l : List Act). take k l) (same_text close refl)) broke.2);
+              part = answered_part config from headers spans used left r is extends takes.got end k whole end_is [] [] after takes.takes.waits;
+              broken = subst (λ (l : List Act). BrokenFor config from.store m r l fault) (ap (λ (l : List Act). take k l)
+                  (same_text close refl)) broke.3;
+              idle = idle takes after (take k text);
             }
 
-        -- a first part of it was sent
-        pub reply_unsent : {d : Told} → SentPart c d (text_of_reply answer r close) → (to : Standing)
-            → new ≡ to.state → Exchanges config from to a d (Some SendFault)
-        unfolding message text
-        reply_unsent {d = d} sent to leaves =
-            let part = done_part config from.state message r close new stored
-            (text_of_reply answer r close) printed sent in record {
-              session = answering from.state new takes.got (take part.0 text) r takes.takes.waits;
-              starts = refl;
-              leaves = leaves;
-              transfer =
-                  acts_then (answering from.state from.state takes.got [] r takes.takes.waits) new
-                  (take part.0 text) (took takes)
-                  (says (acting from.state new (take part.0 (done config from.state message r close)))
-                  (take part.0 text) (ap (λ (l : List Act). take part.0 l) same_text) part.1);
-              exchange = answered_part config from headers spans used left r is extends takes.got end part.0 whole end_is to.unread (current d.connections).coming new takes.takes.waits;
-              idle = idle takes new (take part.0 text);
-            }
+        module _ (end_is : end ≡ end_of_good from.count spans.close) (of_none : failing_at end ≡ nothing)
+            (close : Bool) (closes : close ≡ is_some end) {d : Told} (law : Lawful d) (alone : ByDisk c d)
+            (reply_is : Reply × Store) (answers : AtFront from.unread spans kept (λ m. reply_is.0 ≡
+            (one config from.store.accounts m r).reply))
+            (each : AtFront from.unread spans kept (λ m. KeepsEvents c d from.store
+            (happened config from.store.accounts m r) (Ok reply_is))) where
+          printed : text_of_reply reply_is.0 r close ≡ reply config from.store.accounts message r close
+          printed = text_is config from.store.accounts message r close reply_is.0 (at_message kept keeps (λ m. reply_is.0 ≡
+              (one config from.store.accounts m r).reply) answers)
+
+          kept_events : KeepsEvents c d from.store (happened config from.store.accounts message r) (Ok reply_is)
+          kept_events = at_message kept keeps (λ m. KeepsEvents c d from.store
+              (happened config from.store.accounts m r) (Ok reply_is)) each
+
+          stored : reply_is.1.accounts ≡ after config from.store.accounts message r
+          unfolding after happened
+          stored = kept_events.accounts
+
+          commits : Transfer c d (acting from.store reply_is.1 (acts_of (happened config from.store.accounts message r))) nothing
+          commits = committed config from.store message r close law alone reply_is kept_events
+
+          -- it was sent
+          pub reply_sent : {e : Told} → SentAll d e (text_of_reply reply_is.0 r close) → (to : Standing)
+              → reply_is.1 ≡ to.store
+              → to.unread ≡ drop used from.unread → Exchanges config from to a e end
+          unfolding message text
+          reply_sent {e = e} sent to leaves left_is =
+              let new = reply_is.1 in
+              let x = answering from.store new takes.got text r takes.takes.waits in record {
+                session = x;
+                starts = refl;
+                leaves = leaves;
+                transfer =
+                    fails_as x nothing (failing_at end) (sym of_none)
+                    (acts_then (answering from.store from.store takes.got [] r takes.takes.waits) new text (took takes)
+                    (says (acting from.store new (done config from.store.accounts message r close)) text
+                    (same_text close closes)
+                    (done_all config from.store message r close new commits
+                    (text_of_reply reply_is.0 r close) printed sent)));
+                exchange =
+                    subst (λ (l : List ℕ). IsExchange config (exchange_on from l (current e.connections).coming
+                    (answering from.store new takes.got text r takes.takes.waits)) end) (sym left_is)
+                    (answered config from headers spans used left r is extends takes.got end whole end_is new stored
+                    (current e.connections).coming takes.takes.waits);
+                idle = idle takes new text;
+              }
+
+          -- a first part of it was sent
+          pub reply_unsent : {e : Told} → SentPart d e (text_of_reply reply_is.0 r close) → (to : Standing)
+              → reply_is.1 ≡ to.store → Exchanges config from to a e (Some SendFault)
+          unfolding message text
+          reply_unsent {e = e} sent to leaves =
+              let new = reply_is.1 in
+              let part = done_part config from.store message r close new commits
+              (text_of_reply reply_is.0 r close) printed sent in record {
+                session = answering from.store new takes.got (take part.0 text) r takes.takes.waits;
+                starts = refl;
+                leaves = leaves;
+                transfer =
+                    acts_then (answering from.store from.store takes.got [] r takes.takes.waits) new
+                    (take part.0 text) (took takes)
+                    (says (acting from.store new (take part.0 (done config from.store.accounts message r close)))
+                    (take part.0 text) (ap (λ (l : List Act). take part.0 l) (same_text close closes)) part.1);
+                exchange = answered_part config from headers spans used left r is extends takes.got end part.0 whole end_is to.unread (current e.connections).coming new takes.takes.waits;
+                idle = idle takes new (take part.0 text);
+              }

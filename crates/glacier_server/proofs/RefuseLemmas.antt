@@ -11,13 +11,18 @@ use Rattle.glacier_machine.specs.Outcomes.{one}
 use Rattle.glacier_server.specs.Acts.{send, sends as acts_of}
 use Rattle.glacier_server.specs.declared.end.End.{End}
 use Rattle.glacier_server.specs.declared.end.End.TheVariants.{SendFault}
-use Rattle.glacier_server.specs.Exchange.{Standing, BadStands, Exchanges, BreaksOff, end_for_some}
-use Rattle.glacier_server.specs.Machine.{State, text_of_reply, reply, after}
+use Rattle.glacier_server.specs.declared.end.ServeFault.TheVariants.{Memory}
+use Rattle.glacier_server.specs.Exchange.{Standing, BadStands, Exchanges, end_for_some}
+use Rattle.glacier_server.specs.Breaking.{BreaksOff}
+use Rattle.glacier_server.specs.Machine.{text_of_reply, reply, after}
 use Rattle.glacier_server.specs.Served.{failing_of}
 use Rattle.glacier_server.specs.Session.{reading, acting}
-use Rattle.glacier_server.specs.Transfer.{Transfer, SentAll, SentPart, nothing, current}
+use Rattle.glacier_server.specs.Transfer.{Transfer, SentAll, SentPart, current}
+use Rattle.glacier_server.specs.Does.{nothing}
 use Rattle.glacier_server.proofs.EndLemmas.{answering, bad_answered, bad_part}
-use Rattle.glacier_server.proofs.TransferLemmas.{acts_then, says, fails_as}
+use Rattle.glacier_server.proofs.TransferLemmas.{acts_then, says, fails_as, breaks_off}
+use Rattle.glacier_store.specs.State.{State}
+use Rattle.glacier_store.specs.declared.store.Store.{Store}
 
 -- the text of a message's reply, by what the machine answers
 pub text_is : (config : Config) (state : State) (m : Message) (r : ℕ) (close : Bool) (answer : Reply)
@@ -27,42 +32,42 @@ text_is config state m r close answer is = ap (λ (a : Reply). text_of_reply a r
 
 -- a bad head, for which a reading was taken
 still : (config : Config) (from : Standing) (cause : BadHead) (r : ℕ)
-    → after config from.state (Bad cause) r ≡ from.state
+    → after config from.store.accounts (Bad cause) r ≡ from.store.accounts
 unfolding after
 still config from cause r = refl
 
-module _ (config : Config) {r : ℕ} {cause : BadHead} {a b : Told} (read : (state : State)
-    → Transfer a b (reading state r) nothing) (from : Standing) (count : ℕ)
+module _ (config : Config) {r : ℕ} {cause : BadHead} {a b : Told} (read : (store : Store)
+    → Transfer a b (reading store r) nothing) (from : Standing) (count : ℕ)
     (stands : BadStands from count cause) where
-  pub refused_unmade : BreaksOff config from a b
+  pub refused_unmade : BreaksOff config from a b Memory
   refused_unmade = record {
-    session = reading from.state r;
+    session = reading from.store r;
     starts = refl;
-    transfer = read from.state;
+    transfer = breaks_off (reading from.store r) (read from.store);
     part = bad_part config from r cause stands.1 stands.2 [] [] 0;
-    nothing = refl;
+    broken = refl;
     idle = All-nil _;
   }
 
-  module _ (answer : Reply) (is : answer ≡ (one config from.state (Bad cause) r).reply) where
-    same : text_of_reply answer r true ≡ reply config from.state (Bad cause) r true
-    same = text_is config from.state (Bad cause) r true answer is
+  module _ (answer : Reply) (is : answer ≡ (one config from.store.accounts (Bad cause) r).reply) where
+    same : text_of_reply answer r true ≡ reply config from.store.accounts (Bad cause) r true
+    same = text_is config from.store.accounts (Bad cause) r true answer is
 
     pub refused_sent : {c : Told} (e : End) → failing_of e ≡ nothing
         → end_for_some (last_end count (Bad cause)) ≡ Some e → SentAll b c (text_of_reply answer r true)
-        → (to : Standing) → from.state ≡ to.state → Exchanges config from to a c (Some e)
+        → (to : Standing) → from.store ≡ to.store → Exchanges config from to a c (Some e)
     refused_sent {c = c} e of_none end sent to leaves =
-        let x = answering from.state from.state [] (acts_of (reply config from.state
+        let x = answering from.store from.store [] (acts_of (reply config from.store.accounts
         (Bad cause) r true)) r [] in record {
           session = x;
           starts = refl;
           leaves = leaves;
           transfer =
               fails_as x nothing (failing_of e) (sym of_none)
-              (acts_then (reading from.state r) from.state (acts_of (reply config from.state (Bad cause) r true))
-              (read from.state)
-              (says (acting from.state from.state (acts_of (text_of_reply answer r true))) (acts_of
-              (reply config from.state (Bad cause) r true)) (ap acts_of same) (sent from.state)));
+              (acts_then (reading from.store r) from.store (acts_of (reply config from.store.accounts (Bad cause) r true))
+              (read from.store)
+              (says (acting from.store from.store (acts_of (text_of_reply answer r true))) (acts_of
+              (reply config from.store.accounts (Bad cause) r true)) (ap acts_of same) (sent from.store)));
           exchange =
               bad_answered config from r cause stands.1 stands.2 to.unread (current c.connections).coming e
               (ap (λ (k : ℕ). end_for_some (last_end k (Bad cause))) stands.0 ∙ end) (still config from cause r);
@@ -70,17 +75,17 @@ module _ (config : Config) {r : ℕ} {cause : BadHead} {a b : Told} (read : (sta
         }
 
     pub refused_unsent : {c : Told} → SentPart b c (text_of_reply answer r true) → (to : Standing)
-        → from.state ≡ to.state → Exchanges config from to a c (Some SendFault)
+        → from.store ≡ to.store → Exchanges config from to a c (Some SendFault)
     refused_unsent {c = c} (k, sent) to leaves =
-        let part = take k (acts_of (reply config from.state (Bad cause) r true)) in record {
-          session = answering from.state from.state [] part r [];
+        let part = take k (acts_of (reply config from.store.accounts (Bad cause) r true)) in record {
+          session = answering from.store from.store [] part r [];
           starts = refl;
           leaves = leaves;
           transfer =
-              acts_then (reading from.state r) from.state part (read from.state)
-              (says (acting from.state from.state (acts_of (take k (text_of_reply answer r true)))) part
+              acts_then (reading from.store r) from.store part (read from.store)
+              (says (acting from.store from.store (acts_of (take k (text_of_reply answer r true)))) part
               (ap (λ (l : List ℕ). acts_of (take k l)) same
-              ∙ sym (take-map send k (reply config from.state (Bad cause) r true))) (sent from.state));
+              ∙ sym (take-map send k (reply config from.store.accounts (Bad cause) r true))) (sent from.store));
           exchange = bad_part config from r cause stands.1 stands.2 to.unread (current c.connections).coming k;
           idle = All-nil _;
         }

@@ -1,17 +1,22 @@
 -- What one call does on the last connection.
-use Rattle.std.proofs.Common.{◌≡◌, ℕ, List, [], ◌∷◌, ◌++◌, length, take, refl, sym, ap, subst, ◌∙◌, arith, append-nil}
+use Rattle.std.proofs.Common.{◌≡◌, ℕ, ◌+◌, List, [], ◌∷◌, ◌++◌, length, take, refl, sym, ap, subst, ◌∙◌, arith, append-nil}
 use Rattle.std.specs.Prelude.{Result, Ok, Err}
 use Rattle.std.proofs.lemmas.List.Elements.{All-nil, All-cons}
 use Rattle.glacier_disk.specs.Calls.{ReceiveCall, Receives, SendCall, NowCall, SendsAll, SendsFirst}
 use Rattle.glacier_disk.specs.Network.{Connection, Wait, OnLast, Takes as TakesStep, TakesNone, sent_on, on_last, wait_of}
-use Rattle.glacier_disk.specs.Told.{Told}
+use Rattle.glacier_disk.specs.Told.{Told, Lawful, ByDisk}
 use Rattle.glacier_disk.proofs.Connections.{sent_same, sent_more}
 use Rattle.glacier_machine.specs.Outcomes.{AccountEvent, after_all}
 use Rattle.glacier_server.specs.Acts.{sends as acts, keeps as acts_of, bytes_of}
-use Rattle.glacier_server.specs.Machine.{State}
 use Rattle.glacier_server.specs.Session.{Session, taking, reading, acting}
-use Rattle.glacier_server.specs.Transfer.{Does, Transfer, TakenAt, Takes, SentAll, SentPart, Failing, nothing, receiving, sending, receiving_if, received, Fails, current, others}
-use Rattle.glacier_server.proofs.ActLemmas.{does_quiet, does_send, does_keep, bytes_of-sends, bytes_of-keeps}
+use Rattle.glacier_server.specs.Transfer.{Transfer, TakenAt, Takes, SentAll, SentPart, receiving_if, received, Fails, current, others}
+use Rattle.glacier_server.specs.Does.{Does, Failing, nothing, receiving, sending, breaking}
+use Rattle.glacier_server.proofs.ActLemmas.{bytes_of-sends, bytes_of-keeps, events_in-keeps}
+use Rattle.glacier_server.proofs.DoesLemmas.{does_quiet, does_send, does_keep, does_stay}
+use Rattle.glacier_store.specs.Changes.{Changes, Stays}
+use Rattle.glacier_store.specs.Events.{room_of}
+use Rattle.glacier_store.specs.Stands.{Kept}
+use Rattle.glacier_store.specs.declared.store.Store.{Store}
 
 pub current-snoc : (before : List Connection) (c : Connection) → current (before ++ c ∷ []) ≡ c
 current-snoc [] c = refl
@@ -56,7 +61,7 @@ more_sent on bytes more = ap sent_on on.is ∙ sent_more on.before on.from on.to
 -- one step, whose parts are these
 transfer_by : {old new : Told} {step : Connection → Connection
     → Type 0} (e : Ends step old.connections new.connections) (s : Session) (sent : List ℕ) (failing : Failing)
-    → Does old new s.before s.after s.acts → bytes_of s.acts ≡ sent → new.readings ≡ old.readings ++ s.readings
+    → Does old new s.before s.after s.acts failing → bytes_of s.acts ≡ sent → new.readings ≡ old.readings ++ s.readings
     → e.to.taken ≡ e.from.taken ++ s.taken → e.from.coming ≡ s.taken ++ e.to.coming
     → e.to.sent ≡ e.from.sent ++ sent → e.to.waits ≡ e.from.waits ++ s.waits
     → Fails failing e.from e.to → Transfer old new s failing
@@ -97,8 +102,8 @@ module _ {T E : Type 0} {old new : Told} {result : Result T E} (call : ReceiveCa
   takes_some {bytes = bytes} on =
       let e = ends on in record {
         waits = wait ∷ [];
-        transfer = λ state. transfer_by e (taking state bytes (wait ∷ [])) [] nothing (does_quiet state
-            (same_sent on on.steps.sent)) refl (call.readings ∙ sym (append-nil _))
+        transfer = λ store. transfer_by e (taking store bytes (wait ∷ [])) [] nothing (does_quiet store nothing
+            call.disk.rests call.time (same_sent on on.steps.sent)) refl (call.readings ∙ sym (append-nil _))
             e.steps.taken e.steps.coming (e.steps.sent
             ∙ sym (append-nil _)) (waits_at e e.steps.waits) (e.steps.receives_failed, e.steps.sends_failed);
         each = All-cons (TakenAt wait bytes (λ l. l ≡ [])) wait [] (here bytes) (All-nil (TakenAt wait bytes
@@ -109,8 +114,8 @@ module _ {T E : Type 0} {old new : Told} {result : Result T E} (call : ReceiveCa
   takes_nothing on =
       let e = ends on in record {
         waits = wait ∷ [];
-        transfer = λ state. transfer_by e (taking state [] (wait ∷ [])) [] receiving (does_quiet state
-            (same_sent on on.steps.sent)) refl (call.readings ∙ sym (append-nil _))
+        transfer = λ store. transfer_by e (taking store [] (wait ∷ [])) [] receiving (does_quiet store receiving
+            call.disk.rests call.time (same_sent on on.steps.sent)) refl (call.readings ∙ sym (append-nil _))
             (e.steps.taken ∙ sym (append-nil _)) (sym e.steps.coming) (e.steps.sent
             ∙ sym (append-nil _)) (waits_at e e.steps.waits) (e.steps.receives_failed, e.steps.sends_failed);
         each = All-cons (TakenAt wait [] (λ l. l ≡ [])) wait [] (here []) (All-nil (TakenAt wait [] (λ l. l ≡ [])));
@@ -129,9 +134,9 @@ none_coming on = let e = ends on in ap (λ (c : Connection). c.coming) e.is ∙ 
 -- a send, all of whose bytes went out, or the first ones
 pub sent_all : {T E : Type 0} {old new : Told} {result : Result T E} (bytes : List ℕ) → SendCall old new result
     → SendsAll bytes old new → SentAll old new bytes
-sent_all bytes call all state =
+sent_all bytes call all store =
     let e = ends all.step in
-    transfer_by e (acting state state (acts bytes)) bytes nothing (does_send state bytes
+    transfer_by e (acting store store (acts bytes)) bytes nothing (does_send store nothing bytes call.disk.rests all.time
     (more_sent all.step bytes all.step.steps.sent)) (bytes_of-sends bytes)
     (call.readings ∙ sym (append-nil _)) (e.steps.taken
     ∙ sym (append-nil _)) (sym e.steps.coming) e.steps.sent (e.steps.waits
@@ -141,10 +146,10 @@ pub sent_part : {T E : Type 0} {old new : Told} {result : Result T E} (bytes : L
     → (n : ℕ) → SendsFirst n bytes old new → SentPart old new bytes
 sent_part bytes call n first = (
   n,
-  λ state.
+  λ store.
       let e = ends first.step in
-      transfer_by e (acting state state (acts (take n bytes))) (take n bytes) sending
-      (does_send state (take n bytes) (more_sent first.step (take n bytes) first.step.steps.sent)) (bytes_of-sends
+      transfer_by e (acting store store (acts (take n bytes))) (take n bytes) sending
+      (does_send store sending (take n bytes) call.disk.rests first.time (more_sent first.step (take n bytes) first.step.steps.sent)) (bytes_of-sends
       (take n bytes))
       (call.readings ∙ sym (append-nil _)) (e.steps.taken
       ∙ sym (append-nil _)) (sym e.steps.coming) e.steps.sent (e.steps.waits
@@ -152,10 +157,10 @@ sent_part bytes call n first = (
 )
 
 -- calls that touch no connection
-untouched : {old new : Told} (s : Session) → s.taken ≡ [] → bytes_of s.acts ≡ [] → s.waits ≡ []
-    → Does old new s.before s.after s.acts → new.readings ≡ old.readings ++ s.readings
-    → new.connections ≡ old.connections → Transfer old new s nothing
-untouched {old = old} {new = new} s none silent still does read same = record {
+untouched : {old new : Told} (s : Session) (failing : Failing) → ((c : Connection) → Fails failing c c) → s.taken ≡ []
+    → bytes_of s.acts ≡ [] → s.waits ≡ [] → Does old new s.before s.after s.acts failing
+    → new.readings ≡ old.readings ++ s.readings → new.connections ≡ old.connections → Transfer old new s failing
+untouched {old = old} {new = new} s failing fails none silent idle does read same = record {
   took = ap (λ (cs : List Connection). (current cs).taken) same ∙ sym (append-nil _)
       ∙ ap (λ (l : List ℕ). (current old.connections).taken ++ l) (sym none);
   coming = ap (λ (cs : List Connection). (current cs).coming) (sym same)
@@ -163,26 +168,44 @@ untouched {old = old} {new = new} s none silent still does read same = record {
   sent_now = ap (λ (cs : List Connection). (current cs).sent) same ∙ sym (append-nil _)
       ∙ ap (λ (l : List ℕ). (current old.connections).sent ++ l) (sym silent);
   waited = ap (λ (cs : List Connection). (current cs).waits) same ∙ sym (append-nil _)
-      ∙ ap (λ (l : List Wait). (current old.connections).waits ++ l) (sym still);
+      ∙ ap (λ (l : List Wait). (current old.connections).waits ++ l) (sym idle);
   read = read;
   rest = ap others same;
-  fails = (
-    ap (λ (cs : List Connection). (current cs).receives_failed) same,
-    ap (λ (cs : List Connection).
-        (current cs).sends_failed) same,
-  );
+  fails = subst (λ (cs : List Connection). Fails failing (current old.connections) (current cs)) (sym same)
+      (fails (current old.connections));
   does = does;
 }
 
 -- a reading
-pub reads : {old new : Told} (state : State) (r : ℕ) → NowCall old new → new.readings ≡ old.readings ++ r ∷ []
-    → Transfer old new (reading state r) nothing
-reads state r call is = untouched (reading state r) refl refl refl (does_quiet state
-    (ap sent_on call.connections)) is call.connections
+pub reads : {old new : Told} (store : Store) (r : ℕ) → NowCall old new → new.readings ≡ old.readings ++ r ∷ []
+    → Transfer old new (reading store r) nothing
+reads store r call is = untouched (reading store r) nothing (λ c. (refl, refl)) refl refl refl
+    (does_quiet store nothing call.disk.rests call.time (ap sent_on call.connections)) is call.connections
 
--- events are kept, and no call is made
-pub keeps_all : (s : Told) (state after : State) (events : List AccountEvent) → after ≡ after_all state events
-    → Transfer s s (acting state after (acts_of events)) nothing
-keeps_all s state after events is =
-    untouched (acting state after (acts_of events)) refl (bytes_of-keeps events) refl
-    (does_keep s state after events is) (sym (append-nil s.readings)) refl
+-- a call of the store, by which events are kept, or the server breaks off, with the events or without them
+module _ {old new : Told} (law : Lawful new) (alone : ByDisk old new) (store : Store) where
+  no_reading : new.readings ≡ old.readings ++ []
+  no_reading = alone.readings ∙ sym (append-nil _)
+
+  module _ (events : List AccountEvent)
+      (leaves : Kept old store → Changes old new store.accounts (after_all store.accounts events)) where
+    pub keeps_all : (after : Store) → after.accounts ≡ after_all store.accounts events
+        → after.journal.length ≡ store.journal.length + room_of events → (Kept old store → Kept new after)
+        → Transfer old new (acting store after (acts_of events)) nothing
+    keeps_all after is grew kept =
+        untouched (acting store after (acts_of events)) nothing (λ c. (refl, refl)) refl (bytes_of-keeps events) refl
+        (does_keep store after events nothing law alone is
+        (grew ∙ ap (λ (l : List AccountEvent). store.journal.length + room_of l) (sym (events_in-keeps events)))
+        leaves kept) no_reading alone.connections
+
+    pub keeps_some : Transfer old new (acting store (record store { accounts = after_all store.accounts events })
+        (acts_of events)) breaking
+    keeps_some =
+        let after = record store { accounts = after_all store.accounts events } in
+        untouched (acting store after (acts_of events)) breaking (λ c. (refl, refl)) refl (bytes_of-keeps events) refl
+        (does_keep store after events breaking law alone refl tt leaves (λ kept. tt)) no_reading alone.connections
+
+  pub keeps_none : (Kept old store → Stays old new store.accounts) → Transfer old new (acting store store []) breaking
+  keeps_none leaves =
+      untouched (acting store store []) breaking (λ c. (refl, refl)) refl refl refl
+      (does_stay store law alone leaves) no_reading alone.connections

@@ -1,23 +1,23 @@
 -- Stretches of calls on the last connection, one after another.
-use Rattle.std.proofs.Common.{◌≡◌, ℕ, ◌+◌, ◌-◌, ◌≤◌, ◌<◌, List, [], ◌++◌, length, take, refl, sym, ap, subst, ◌∙◌, arith, append-nil, append_assoc, length-append}
-use Rattle.std.specs.Prelude.{min}
-use Rattle.std.specs.FinMap as map
-use Rattle.std.proofs.lemmas.List.{take_min, take-append-le}
+use Rattle.std.proofs.Common.{◌≡◌, ℕ, ◌+◌, ◌-◌, ◌≤◌, ◌<◌, List, [], ◌++◌, length, refl, sym, ap, subst, ◌∙◌, arith, append-nil, append_assoc, length-append}
 use Rattle.std.proofs.lemmas.List.Elements.{All-nil, All-append}
-use Rattle.std.proofs.Math.Seq.{take-append-add}
+use Rattle.std.specs.FinMap as map
 use Rattle.glacier_base.specs.Outside.{one_more}
+use Rattle.glacier_disk.specs.declared.area.Area.TheVariants.{Lead}
 use Rattle.glacier_disk.specs.Network.{Connection, Wait, wait_of}
 use Rattle.glacier_disk.specs.Told.{Told}
-use Rattle.glacier_server.specs.Acts.{Act, sends, bytes_of}
-use Rattle.glacier_server.specs.Machine.{State}
+use Rattle.glacier_server.specs.Acts.{Act, bytes_of}
 use Rattle.glacier_server.specs.Session.{Session, taking, acting, wait_after}
-use Rattle.glacier_server.specs.Transfer.{Does, Transfer, TakenAt, Takes, TakesBehind, TakesOf, SentAll, SentPart, Failing, nothing, receiving, sending, Fails, current}
-use Rattle.glacier_server.proofs.ActLemmas.{bytes_of-append, sends-append, does_nothing, does_then}
+use Rattle.glacier_server.specs.Transfer.{Transfer, TakenAt, Takes, TakesBehind, TakesOf, Fails, current}
+use Rattle.glacier_server.specs.Does.{Does, Failing, nothing, receiving, sending, breaking}
+use Rattle.glacier_server.proofs.ActLemmas.{bytes_of-append}
+use Rattle.glacier_server.proofs.DoesLemmas.{does_nothing, does_then, does_break}
 use Rattle.glacier_server.proofs.SessionLemmas.{joined, all_more, same_wait}
+use Rattle.glacier_store.specs.declared.store.Store.{Store}
 
 -- no call at all
-pub stays : (s : Told) (state : State) → Transfer s s (taking state [] []) nothing
-stays s state = record {
+pub stays : (s : Told) (store : Store) → Transfer s s (taking store [] []) nothing
+stays s store = record {
   took = sym (append-nil _);
   coming = refl;
   sent_now = sym (append-nil _);
@@ -25,7 +25,7 @@ stays s state = record {
   read = sym (append-nil _);
   rest = refl;
   fails = (refl, refl);
-  does = does_nothing s state;
+  does = does_nothing s store;
 }
 
 -- a call that fails behind others that didn't
@@ -33,6 +33,7 @@ fails_then : (failing : Failing) (a b c : Connection) → Fails nothing a b → 
 fails_then nothing a b c first second = (second.0 ∙ first.0, second.1 ∙ first.1)
 fails_then receiving a b c first second = (second.0 ∙ ap one_more first.0, second.1 ∙ first.1)
 fails_then sending a b c first second = (second.0 ∙ first.0, second.1 ∙ ap one_more first.1)
+fails_then breaking a b c first second = (second.0 ∙ first.0, second.1 ∙ first.1)
 
 -- one stretch after another
 pub then : {a b c : Told} {failing : Failing} (s t : Session) → t.before ≡ s.after → Transfer a b s nothing
@@ -48,11 +49,11 @@ then {a = a} {b = b} {c = c} {failing = failing} s t leads first second = record
   read = second.read ∙ ap (λ (l : List ℕ). l ++ t.readings) first.read ∙ append_assoc _ s.readings t.readings;
   rest = second.rest ∙ first.rest;
   fails = fails_then failing _ _ _ first.fails second.fails;
-  does = does_then first.does (subst (λ (k : State). Does b c k t.after t.acts) leads second.does);
+  does = does_then first.does (subst (λ (k : Store). Does b c k t.after t.acts failing) leads second.does);
 }
 
 -- only acts behind it
-pub acts_then : {a b c : Told} {failing : Failing} (s : Session) (after : State) (acts : List Act)
+pub acts_then : {a b c : Told} {failing : Failing} (s : Session) (after : Store) (acts : List Act)
     → Transfer a b s nothing → Transfer b c (acting s.after after acts) failing
     → Transfer a c (record s { after = after; acts = s.acts ++ acts }) failing
 acts_then {a = a} {c = c} {failing = failing} s after acts first second =
@@ -70,15 +71,28 @@ pub says : {a b : Told} {failing : Failing} (s : Session) (acts : List Act) → 
 says {a = a} {b = b} {failing = failing} s acts same x = subst (λ (l : List Act). Transfer a b
     (record s { acts = l }) failing) same x
 
-pub leads : {a b : Told} {failing : Failing} (s : Session) (after : State) → s.after ≡ after
+pub leads : {a b : Told} {failing : Failing} (s : Session) (after : Store) → s.after ≡ after
     → Transfer a b s failing → Transfer a b (record s { after = after }) failing
-leads {a = a} {b = b} {failing = failing} s after same x = subst (λ (k : State). Transfer a b
+leads {a = a} {b = b} {failing = failing} s after same x = subst (λ (k : Store). Transfer a b
     (record s { after = k }) failing) same x
 
 -- what failed, said otherwise
 pub fails_as : {a b : Told} (s : Session) (failing other : Failing) → failing ≡ other → Transfer a b s failing
     → Transfer a b s other
 fails_as {a = a} {b = b} s failing other same x = subst (λ (f : Failing). Transfer a b s f) same x
+
+-- the server breaks off where nothing failed
+pub breaks_off : {a b : Told} (s : Session) → Transfer a b s nothing → Transfer a b s breaking
+breaks_off s x = record {
+  took = x.took;
+  coming = x.coming;
+  sent_now = x.sent_now;
+  waited = x.waited;
+  read = x.read;
+  rest = x.rest;
+  fails = x.fails;
+  does = does_break x.does;
+}
 
 -- the point behind a session
 pub moved : {a b : Told} {failing : Failing} (s : Session) → Transfer a b s failing
@@ -95,6 +109,10 @@ takes_none s Holds = record {
   each = All-nil (TakenAt (wait_of
       (current s.connections)) [] Holds);
 }
+
+-- a store of no account
+unkept : Store
+unkept = record { accounts = map.empty; journal = record { area = Lead; length = 17; enough = omega arith; within = omega arith } }
 
 module _ {a b c : Told} {failing : Failing} (got more : List ℕ) (P Q : List ℕ
     → Type 0) (first : Takes a b got P nothing) (second : Takes b c more Q failing) (leads_to : (l : List ℕ) → Q l
@@ -113,7 +131,7 @@ module _ {a b c : Told} {failing : Failing} (got more : List ℕ) (P Q : List �
   later : (w : Wait) → TakenAt (wait_of (current b.connections)) more Q w
       → TakenAt (wait_of (current a.connections)) (got ++ more) P w
   later w x =
-      let one = first.transfer map.empty in record {
+      let one = first.transfer unkept in record {
         till = got ++ x.till;
         later = x.later;
         cut = ap (λ (l : List ℕ). got ++ l) x.cut ∙ sym (append_assoc got x.till x.later);
@@ -132,8 +150,8 @@ module _ {a b c : Told} {failing : Failing} (got more : List ℕ) (P Q : List �
   pub takes_then : Takes a c (got ++ more) P failing
   takes_then = record {
     waits = first.waits ++ second.waits;
-    transfer = λ state. then (taking state got first.waits) (taking state more second.waits) refl
-        (first.transfer state) (second.transfer state);
+    transfer = λ store. then (taking store got first.waits) (taking store more second.waits) refl
+        (first.transfer store) (second.transfer store);
     each =
         All-append (TakenAt (wait_of (current a.connections)) (got ++ more) P) first.waits second.waits
         (all_more (TakenAt (wait_of (current a.connections)) got P) (TakenAt (wait_of (current a.connections))
@@ -215,31 +233,3 @@ of_behind {a = a} {here = here} at filled missing end is first here_is now_is wi
         }) first.takes.each;
   };
 }
-
--- bytes sent behind others, all of them or a first part
-pub sent_then : {a b c : Told} (first more : List ℕ) → SentAll a b first → SentAll b c more
-    → SentAll a c (first ++ more)
-sent_then first more one two state =
-    says (acting state state (sends first ++ sends more)) (sends (first ++ more)) (sym (sends-append first more))
-    (acts_then (acting state state (sends first)) state (sends more) (one state) (two state))
-
-pub part_then : {a b c : Told} (first more : List ℕ) → SentAll a b first → SentPart b c more
-    → SentPart a c (first ++ more)
-part_then first more one (n, two) = (
-  length first + n,
-  λ state. says (acting state state (sends (first ++ take n more))) (sends (take (length first + n)
-      (first ++ more))) (ap sends (sym (take-append-add first more n)))
-      (says (acting state state (sends first ++ sends (take n more))) (sends (first ++ take n more)) (sym
-      (sends-append first (take n more)))
-      (acts_then (acting state state (sends first)) state (sends (take n more)) (one state) (two state))),
-)
-
-pub part_front : {a b : Told} (first more : List ℕ) → SentPart a b first → SentPart a b (first ++ more)
-part_front first more (n, one) =
-    let k : ℕ = min n (length first) in
-    let same : take n first ≡ take k (first ++ more) = sym (take_min n first)
-    ∙ sym (take-append-le k first more (omega arith)) in (
-      k,
-      λ state. says (acting state state (sends (take n first))) (sends (take k (first ++ more))) (ap sends same)
-          (one state),
-    )

@@ -11,11 +11,14 @@ use Rattle.glacier_machine.specs.declared.config.Config.{Config}
 use Rattle.glacier_server.specs.declared.end.End.{End}
 use Rattle.glacier_server.specs.declared.end.End.TheVariants.{Closed, Cut, Refused, Bound, ReadFault, SendFault}
 use Rattle.glacier_server.specs.Acts.{Act}
-use Rattle.glacier_server.specs.Machine.{State, after}
+use Rattle.glacier_server.specs.Does.{Failing, nothing, breaking}
+use Rattle.glacier_server.specs.Machine.{after}
 use Rattle.glacier_server.specs.Out.{told, Tells}
 use Rattle.glacier_server.specs.Served.{failing_of}
 use Rattle.glacier_server.specs.Session.{Session, HeldWaiting}
-use Rattle.glacier_server.specs.Transfer.{Transfer, Failing, nothing, current}
+use Rattle.glacier_server.specs.Transfer.{Transfer, current}
+use Rattle.glacier_store.specs.State.{State}
+use Rattle.glacier_store.specs.declared.store.Store.{Store}
 
 -- the end that is answered for the end of an input
 abbrev pub end_for : InputEnd → End
@@ -39,23 +42,24 @@ abbrev pub failing_at : Option End → Failing
 failing_at None = nothing
 failing_at (Some end) = failing_of end
 
--- the same of what is answered: an error is want of memory
-abbrev pub failing_in : {E : Type 0} → Result (Option End) E → Failing
-failing_in (Ok end) = failing_at end
-failing_in (Err e) = nothing
+-- the same of what is answered: an error breaks the server off
+abbrev pub failing_in : {T E : Type 0} → Result (Option End × T) E → Failing
+failing_in (Ok r) = failing_at r.0
+failing_in (Err e) = breaking
 
+-- the same where an error is want of memory, and the store is still there
 abbrev pub failing_on : {E : Type 0} → Result End E → Failing
 failing_on (Ok end) = failing_of end
 failing_on (Err e) = nothing
 
--- where a connection stands between messages: so many were answered, these bytes are unread, in this state
+-- where a connection stands between messages: so many were answered, these bytes are unread, with this store
 pub record Standing : Type 0 where
   pub count : ℕ
   pub unread : List ℕ
-  pub state : State
+  pub store : Store
 
-abbrev pub standing : ℕ → List ℕ → State → Standing
-standing count unread state = record { count = count; unread = unread; state = state }
+abbrev pub standing : ℕ → List ℕ → Store → Standing
+standing count unread store = record { count = count; unread = unread; store = store }
 
 -- a bad head with this cause is next, behind so many messages
 abbrev pub BadStands : Standing → ℕ → BadHead → Type 0
@@ -80,8 +84,8 @@ exchange_on from left coming s = record {
   input = from.unread ++ s.taken;
   left = left;
   coming = coming;
-  before = s.before;
-  after = s.after;
+  before = s.before.accounts;
+  after = s.after.accounts;
   acts = s.acts;
   readings = s.readings;
 }
@@ -132,20 +136,10 @@ IsExchange config x (Some SendFault) = AnswersPart config x
 pub record Exchanges (config : Config) (from to : Standing) (old new : Told) (end : Option End)
     : Type 0 where
   pub session : Session
-  pub starts : session.before ≡ from.state
-  pub leaves : session.after ≡ to.state
+  pub starts : session.before ≡ from.store
+  pub leaves : session.after ≡ to.store
   pub transfer : Transfer old new session (failing_at end)
   pub exchange : IsExchange config
       (exchange_on from to.unread (current new.connections).coming session) end
-  pub idle : HeldWaiting (wait_of (current old.connections)) session
-      (λ till. Idles (exchange_on from [] [] till))
-
--- they took the message that stands there, and did nothing for it
-pub record BreaksOff (config : Config) (from : Standing) (old new : Told) : Type 0 where
-  pub session : Session
-  pub starts : session.before ≡ from.state
-  pub transfer : Transfer old new session nothing
-  pub part : AnswersPart config (exchange_on from [] [] session)
-  pub nothing : session.acts ≡ []
   pub idle : HeldWaiting (wait_of (current old.connections)) session
       (λ till. Idles (exchange_on from [] [] till))

@@ -9,10 +9,12 @@ use Rattle.glacier_machine.specs.declared.config.Config.{Config}
 use Rattle.glacier_server.specs.declared.end.End.{End}
 use Rattle.glacier_server.specs.declared.end.End.TheVariants.{Closed, Cut, Refused, Bound, ReadFault, SendFault}
 use Rattle.glacier_server.specs.Acts.{Act, after_acts}
-use Rattle.glacier_server.specs.Machine.{State}
+use Rattle.glacier_server.specs.Does.{Failing, nothing, receiving, sending, breaking}
 use Rattle.glacier_server.specs.Out.{run, out, Tells}
 use Rattle.glacier_server.specs.Session.{Session, HeldWaiting}
-use Rattle.glacier_server.specs.Transfer.{Transfer, Failing, nothing, receiving, sending, current}
+use Rattle.glacier_server.specs.Transfer.{Transfer, current}
+use Rattle.glacier_store.specs.State.{State}
+use Rattle.glacier_store.specs.declared.store.Store.{Store}
 
 -- the messages heard in the bytes were run at these readings, and all that is told was done
 pub record Runs (config : Config) (s : Session) (last : Option InputEnd) : Type 0 where
@@ -22,8 +24,8 @@ pub record Runs (config : Config) (s : Session) (last : Option InputEnd) : Type 
   pub enough : length messages ≤ length s.readings
   pub interim : List Act
   pub tells : Tells rest (drop (length messages) s.readings) interim
-  pub all : s.acts ≡ out config 0 s.before messages s.readings ++ interim
-  pub after_them : s.after ≡ run config s.before messages s.readings
+  pub all : s.acts ≡ out config 0 s.before.accounts messages s.readings ++ interim
+  pub after_them : s.after.accounts ≡ run config s.before.accounts messages s.readings
 
 -- the last message made the end, with one reading for each message
 pub record EndsLast (config : Config) (s : Session) (end : InputEnd) : Type 0 where
@@ -64,7 +66,7 @@ pub record IsWholeOut (config : Config) (taken readings : List ℕ) (state : Sta
 -- what was done is a first part of it
 abbrev pub IsPartOfOut : Config → Session → Type 0
 IsPartOfOut config s =
-    (all undone : List Act) × IsOut config s.taken s.readings s.before all × (all ≡ s.acts ++ undone)
+    (all undone : List Act) × IsOut config s.taken s.readings s.before.accounts all × (all ≡ s.acts ++ undone)
 
 -- these messages were run, the first of those heard and each at its reading: all was done for those
 -- before the last one, and a first part for that; nothing was done for a later one
@@ -75,18 +77,13 @@ pub record AnsweredPart (config : Config) (s : Session) : Type 0 where
   pub hears : Hears 0 s.taken messages rest last
   pub each : length s.readings ≡ length messages
   pub undone : List Act
-  pub all : out config 0 s.before messages s.readings ≡ s.acts ++ undone
+  pub all : out config 0 s.before.accounts messages s.readings ≡ s.acts ++ undone
   pub answered : (front : List Message) (m : Message) → messages ≡ front ++ m ∷ []
-      → length (out config 0 s.before front s.readings) ≤ length s.acts
-  pub after_is : s.after ≡ after_acts s.before s.acts
+      → length (out config 0 s.before.accounts front s.readings) ≤ length s.acts
+  pub after_is : s.after.accounts ≡ after_acts s.before.accounts s.acts
 
 abbrev pub Part : Config → Session → Type 0
 Part config s = IsPartOfOut config s × AnsweredPart config s
-
--- nothing was done for the last of these messages, if there is one
-abbrev pub NothingForLast : (config : Config) (s : Session) → AnsweredPart config s → Type 0
-NothingForLast config s part = (front : List Message) (m : Message) → part.messages ≡ front ++ m ∷ []
-    → s.acts ≡ out config 0 s.before front s.readings
 
 -- how a connection that ended so was served, where these bytes were still to come
 abbrev pub Served : Config → Session → List ℕ → End → Type 0
@@ -111,26 +108,16 @@ failing_of Bound = nothing
 failing_of ReadFault = receiving
 failing_of SendFault = sending
 
--- the same of what is answered: an error is want of memory
+-- the same of what is answered: an error breaks the server off
 abbrev pub failing_to : {T E : Type 0} → Result (End × T) E → Failing
 failing_to (Ok r) = failing_of r.0
-failing_to (Err e) = nothing
+failing_to (Err e) = breaking
 
 -- the last connection was served to this end
-pub record ServedLast (config : Config) (old new : Told) (state after : State) (end : End) : Type 0 where
+pub record ServedLast (config : Config) (old new : Told) (store after : Store) (end : End) : Type 0 where
   pub session : Session
-  pub starts : session.before ≡ state
+  pub starts : session.before ≡ store
   pub leaves : session.after ≡ after
   pub transfer : Transfer old new session (failing_of end)
   pub served : Served config session (current new.connections).coming end
-  pub prompt : IsPrompt config (wait_of (current old.connections)) session
-
--- memory was wanting: on the last connection all was done for the messages before the last, and nothing
--- for that
-pub record PartLast (config : Config) (old new : Told) (state : State) : Type 0 where
-  pub session : Session
-  pub starts : session.before ≡ state
-  pub transfer : Transfer old new session nothing
-  pub part : Part config session
-  pub nothing : NothingForLast config session part.1
   pub prompt : IsPrompt config (wait_of (current old.connections)) session

@@ -1,17 +1,19 @@
 -- What a server does for the connections that come, one after another.
 use Rattle.std.specs.Prelude.{◌≡◌, ◌⊎◌, true, false, ℕ, ◌+◌, ◌≤◌, List, [], ◌∷◌, ◌++◌, length, Result, Ok, Err}
-use Rattle.glacier_base.specs.Outside.{one_more}
+use Rattle.glacier_base.specs.Outside.{one_more, HasRisen}
 use Rattle.glacier_disk.specs.Network.{Connection, Wait, accepted}
 use Rattle.glacier_disk.specs.Told.{Told}
 use Rattle.glacier_machine.specs.declared.config.Config.{Config}
 use Rattle.glacier_server.specs.declared.end.End.{End}
 use Rattle.glacier_server.specs.declared.end.ServeFault.{ServeFault}
-use Rattle.glacier_server.specs.declared.end.ServeFault.TheVariants.{Memory, Accept}
+use Rattle.glacier_server.specs.declared.end.ServeFault.TheVariants.{Disk, Memory, JournalEnd, Accept}
 use Rattle.glacier_server.specs.Acts.{Act, accept, bytes_of}
-use Rattle.glacier_server.specs.Machine.{State}
-use Rattle.glacier_server.specs.Served.{Served, Part, NothingForLast, IsPrompt, failing_of}
+use Rattle.glacier_server.specs.Served.{Served, Part, IsPrompt, failing_of}
+use Rattle.glacier_server.specs.Breaking.{BrokenBy}
 use Rattle.glacier_server.specs.Session.{Session}
-use Rattle.glacier_server.specs.Transfer.{Does, Fails}
+use Rattle.glacier_server.specs.Transfer.{Fails}
+use Rattle.glacier_server.specs.Does.{Does, Grew, nothing, breaking}
+use Rattle.glacier_store.specs.declared.store.Store.{Store}
 
 -- the session is all that was done on the connection
 pub record IsSessionOf (c : Connection) (s : Session) : Type 0 where
@@ -30,14 +32,15 @@ pub record ServedOne (config : Config) (c : Connection) (s : Session) : Type 0 w
   pub served : Served config s c.coming end
   pub prompt : IsPrompt config begun s
   pub fails : Fails (failing_of end) (accepted []) c
+  pub grew : Grew s.before s.after s.acts
 
--- each was served in order, from the state that the one before it left
-abbrev pub ServedAll : Config → List Connection → List Session → State → State → Type 0
-ServedAll config [] [] state new = new ≡ state
-ServedAll config [] (s ∷ ss) state new = ⊥
-ServedAll config (c ∷ cs) [] state new = ⊥
-ServedAll config (c ∷ cs) (s ∷ ss) state new =
-    (s.before ≡ state) × ServedOne config c s × ServedAll config cs ss s.after new
+-- each was served in order, with the store that the one before it left
+abbrev pub ServedAll : Config → List Connection → List Session → Store → Store → Type 0
+ServedAll config [] [] store new = new ≡ store
+ServedAll config [] (s ∷ ss) store new = ⊥
+ServedAll config (c ∷ cs) [] store new = ⊥
+ServedAll config (c ∷ cs) (s ∷ ss) store new =
+    (s.before ≡ store) × ServedOne config c s × ServedAll config cs ss s.after new
 
 -- what was done on connections one after another, and the readings that were taken
 abbrev pub acts_of : List Session → List Act
@@ -48,52 +51,54 @@ abbrev pub readings_of : List Session → List ℕ
 readings_of [] = []
 readings_of (s ∷ ss) = s.readings ++ readings_of ss
 
--- these connections came, and this was done on them
-pub record Comes (old new : Told) (state after : State) (came : List Connection) (sessions : List Session)
-    : Type 0 where
+-- these connections came
+pub record Comes (old new : Told) (came : List Connection) (sessions : List Session) : Type 0 where
   pub behind : new.connections ≡ old.connections ++ came
   pub read : new.readings ≡ old.readings ++ readings_of sessions
-  pub does : Does old new state after (acts_of sessions)
 
 -- so many connections came and were served
-pub record Serves (config : Config) (old new : Told) (state after : State) (count : ℕ) : Type 0 where
+pub record Serves (config : Config) (old new : Told) (store after : Store) (count : ℕ) : Type 0 where
   pub came : List Connection
   pub sessions : List Session
-  pub comes : Comes old new state after came sessions
+  pub comes : Comes old new came sessions
+  pub does : Does old new store after (acts_of sessions) nothing
   pub number : length came ≡ count
   pub fewer : old.listener.to_come ≡ count + new.listener.to_come
-  pub each : ServedAll config came sessions state after
+  pub each : ServedAll config came sessions store after
 
--- those before the last were served; on it all was done for the messages before the last, and nothing
--- for that
-pub record BreaksLast (config : Config) (came : List Connection) (sessions : List Session) (state : State)
-    : Type 0 where
+-- those before the last were served; on it all was done for the messages before the last, and for that what the fault
+-- says
+pub record BreaksLast (config : Config) (came : List Connection) (sessions : List Session) (store : Store)
+    (fault : ServeFault) : Type 0 where
   pub first : List Connection
   pub last : Connection
   pub before : List Session
   pub here : Session
   pub came_are : came ≡ first ++ last ∷ []
   pub sessions_are : sessions ≡ before ++ here ∷ []
-  pub served : ServedAll config first before state here.before
+  pub served : ServedAll config first before store here.before
   pub all : IsSessionOf last here
   pub part : Part config here
-  pub nothing : NothingForLast config here part.1
+  pub broken : BrokenBy config here part.1 fault
   pub prompt : IsPrompt config begun here
 
 -- what was served before the fault
-abbrev pub ServedTill : Config → ServeFault → List Connection → List Session → State → State → Type 0
-ServedTill config Accept came sessions state after = ServedAll config came sessions state after
-ServedTill config Memory came sessions state after = BreaksLast config came sessions state
+abbrev pub ServedTill : Config → ServeFault → List Connection → List Session → Store → Store → Type 0
+ServedTill config Disk came sessions store after = BreaksLast config came sessions store Disk
+ServedTill config Memory came sessions store after = BreaksLast config came sessions store Memory
+ServedTill config (JournalEnd end) came sessions store after = BreaksLast config came sessions store (JournalEnd end)
+ServedTill config Accept came sessions store after = ServedAll config came sessions store after
 
 -- some connections came, at most so many, and then the server stopped
-pub record Breaks (config : Config) (old new : Told) (state : State) (most : ℕ) (fault : ServeFault)
+pub record Breaks (config : Config) (old new : Told) (store : Store) (most : ℕ) (fault : ServeFault)
     : Type 0 where
   pub came : List Connection
   pub sessions : List Session
-  pub after : State
-  pub comes : Comes old new state after came sessions
+  pub after : Store
+  pub comes : Comes old new came sessions
+  pub does : Does old new store after (acts_of sessions) breaking
   pub few : length came ≤ most
-  pub till : ServedTill config fault came sessions state after
+  pub till : ServedTill config fault came sessions store after
 
 -- memory was wanting before the first connection, and nothing was done
 abbrev pub NeverBegan : ServeFault → Told → Told → Type 0
@@ -101,31 +106,44 @@ NeverBegan fault old new =
     (fault ≡ Memory) × (new.connections ≡ old.connections) × (new.readings ≡ old.readings)
 
 -- how the server stopped
-abbrev pub Broken : Config → Told → Told → State → ℕ → ServeFault → Type 0
-Broken config old new state most fault =
-    Breaks config old new state most fault ⊎ NeverBegan fault old new
+abbrev pub Broken : Config → Told → Told → Store → ℕ → ServeFault → Type 0
+Broken config old new store most fault =
+    Breaks config old new store most fault ⊎ NeverBegan fault old new
 
 -- a connection was just accepted, and nothing else was done
-pub record JustAccepted (old new : Told) (state : State) : Type 0 where
+pub record JustAccepted (old new : Told) (store : Store) : Type 0 where
   pub input : List ℕ
   pub next : new.connections ≡ old.connections ++ accepted input ∷ []
   pub readings : new.readings ≡ old.readings
   pub fewer : old.listener.to_come ≡ 1 + new.listener.to_come
-  pub does : Does old new state state (accept ∷ [])
+  pub does : Does old new store store (accept ∷ []) nothing
 
--- the listener's count of failed calls shows whether an accept failed last
-abbrev pub Accepting : {T : Type 0} → Result T ServeFault → Told → Told → Type 0
-Accepting (Ok x) old new = new.listener.faults ≡ old.listener.faults
-Accepting (Err Memory) old new = new.listener.faults ≡ old.listener.faults
-Accepting (Err Accept) old new = new.listener.faults ≡ one_more old.listener.faults
+-- what stopped the server, by the counts of failed calls of the listener and of the disk
+abbrev pub HasStopped : ServeFault → Told → Told → Type 0
+HasStopped Disk old new =
+    (new.listener.faults ≡ old.listener.faults) × HasRisen old.disk_faults new.disk_faults
+HasStopped Memory old new =
+    (new.listener.faults ≡ old.listener.faults) × (new.disk_faults ≡ old.disk_faults)
+HasStopped (JournalEnd end) old new =
+    (new.listener.faults ≡ old.listener.faults) × (new.disk_faults ≡ old.disk_faults)
+HasStopped Accept old new =
+    (new.listener.faults ≡ one_more old.listener.faults) × (new.disk_faults ≡ old.disk_faults)
 
--- what calls of the listener and on its connections keep, on every form: no connection is open then,
+-- these counts show whether something did
+abbrev pub ShowsFault : {T : Type 0} → Result T ServeFault → Told → Told → Type 0
+ShowsFault (Ok x) old new =
+    (new.listener.faults ≡ old.listener.faults) × (new.disk_faults ≡ old.disk_faults)
+ShowsFault (Err fault) old new = HasStopped fault old new
+
+-- what calls of the listener and on its connections keep, on every form: no connection is open then, the disk is,
 -- it listens, and no name was told to the outside
 pub record ServesOn (old new : Told) : Type 0 where
   pub free : new.connected ≡ false
+  pub opened : new.opened ≡ true
   pub listening : new.listener.listening ≡ true
   pub addresses : new.listener.addresses ≡ old.listener.addresses
   pub folders : new.folders ≡ old.folders
+  pub disks : old.disk_faults ≤ new.disk_faults
   pub accepts : old.listener.faults ≤ new.listener.faults
   pub receives : old.receive_faults ≤ new.receive_faults
   pub sends : old.send_faults ≤ new.send_faults

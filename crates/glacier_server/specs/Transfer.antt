@@ -1,12 +1,13 @@
 -- What a stretch of calls does on the connection that was accepted last.
 use Rattle.std.specs.Prelude.{◌≡◌, ℕ, ◌+◌, ◌<◌, ◌≤◌, true, List, [], ◌∷◌, ◌++◌, length, take, All, Result, Ok, Err}
 use Rattle.glacier_base.specs.Outside.{one_more}
-use Rattle.glacier_disk.specs.Network.{Connection, Wait, accepted, sent_on, wait_of}
+use Rattle.glacier_disk.specs.Network.{Connection, Wait, accepted, wait_of}
 use Rattle.glacier_disk.specs.Told.{Told}
 use Rattle.glacier_machine.specs.SignedRequests.{IsKept}
-use Rattle.glacier_server.specs.Acts.{Act, sends, bytes_of, sent_by, after_acts}
-use Rattle.glacier_server.specs.Machine.{State}
+use Rattle.glacier_server.specs.Acts.{sends, bytes_of}
+use Rattle.glacier_server.specs.Does.{Does, Failing, nothing, receiving, sending, breaking}
 use Rattle.glacier_server.specs.Session.{Session, taking, acting}
+use Rattle.glacier_store.specs.declared.store.Store.{Store}
 
 -- the connection that was accepted last
 abbrev pub current : List Connection → Connection
@@ -23,12 +24,6 @@ others (c ∷ d ∷ cs) = c ∷ others (d ∷ cs)
 -- no byte of the last connection is left to come
 abbrev pub NoneComing : Told → Type 0
 NoneComing now = (current now.connections).coming ≡ []
-
--- what failed last, after which no other call was made: nothing, a receive, or a send
-pub data Failing : Type 0 where
-  nothing : Failing
-  receiving : Failing
-  sending : Failing
 
 -- the failing of a receive, and of a send
 abbrev pub receiving_if : {T E : Type 0} → Result T E → Failing
@@ -52,30 +47,30 @@ Fails receiving old new =
     (new.receives_failed ≡ one_more old.receives_failed) × (new.sends_failed ≡ old.sends_failed)
 Fails sending old new =
     (new.receives_failed ≡ old.receives_failed) × (new.sends_failed ≡ one_more old.sends_failed)
+Fails breaking old new =
+    (new.receives_failed ≡ old.receives_failed) × (new.sends_failed ≡ old.sends_failed)
 
--- and so do the counts of the whole, on every form
+-- and so do the counts of the whole, on every form; the disk's is left to what broke the server off
 abbrev pub Counts : Failing → Told → Told → Type 0
-Counts nothing old new =
-    (new.receive_faults ≡ old.receive_faults) × (new.send_faults ≡ old.send_faults)
-Counts receiving old new =
-    (new.receive_faults ≡ one_more old.receive_faults) × (new.send_faults ≡ old.send_faults)
-Counts sending old new =
-    (new.receive_faults ≡ old.receive_faults) × (new.send_faults ≡ one_more old.send_faults)
+Counts nothing old new = (new.receive_faults ≡ old.receive_faults) × (new.send_faults ≡ old.send_faults)
+    × (new.disk_faults ≡ old.disk_faults)
+Counts receiving old new = (new.receive_faults ≡ one_more old.receive_faults)
+    × (new.send_faults ≡ old.send_faults) × (new.disk_faults ≡ old.disk_faults)
+Counts sending old new = (new.receive_faults ≡ old.receive_faults)
+    × (new.send_faults ≡ one_more old.send_faults) × (new.disk_faults ≡ old.disk_faults)
+Counts breaking old new = (new.receive_faults ≡ old.receive_faults) × (new.send_faults ≡ old.send_faults)
+    × (old.disk_faults ≤ new.disk_faults)
 
--- what every stretch of calls on a connection keeps, on every form: it is open, the listener and the
--- disk's names are left alone, and the counts of failed calls show what failed
+-- what every stretch of calls on a connection keeps, on every form: it is open, as the disk is, the listener and
+-- the disk's names are left alone, and the counts of failed calls show what failed
 pub record Keeps (old new : Told) (failing : Failing) : Type 0 where
   pub connected : new.connected ≡ true
+  pub opened : old.opened ≡ true → new.opened ≡ true
+  pub folders : old.opened ≡ true → new.folders ≡ old.folders
   pub listener : new.listener ≡ old.listener
-  pub folders : new.folders ≡ old.folders
   pub receives : old.receive_faults ≤ new.receive_faults
   pub sends : old.send_faults ≤ new.send_faults
   pub counts : Counts failing old new
-
--- these acts were done, and the state after is that after their events
-pub record Does (old new : Told) (state after : State) (acts : List Act) : Type 0 where
-  pub all_sent : sent_on new.connections ≡ sent_by acts (sent_on old.connections)
-  pub after_is : after ≡ after_acts state acts
 
 -- this session was done on the last connection, on which this failed
 pub record Transfer (old new : Told) (s : Session) (failing : Failing) : Type 0 where
@@ -86,7 +81,7 @@ pub record Transfer (old new : Told) (s : Session) (failing : Failing) : Type 0 
   pub read : new.readings ≡ old.readings ++ s.readings
   pub rest : others new.connections ≡ others old.connections
   pub fails : Fails failing (current old.connections) (current new.connections)
-  pub does : Does old new s.before s.after s.acts
+  pub does : Does old new s.before s.after s.acts failing
 
 -- this held of the bytes that had been taken when a receive waited so, where nothing was sent
 pub record TakenAt (start : Wait) (all : List ℕ) (Holds : List ℕ → Type 0) (wait : Wait) : Type 0 where
@@ -100,7 +95,7 @@ pub record TakenAt (start : Wait) (all : List ℕ) (Holds : List ℕ → Type 0)
 pub record Takes (old new : Told) (got : List ℕ) (Holds : List ℕ → Type 0) (failing : Failing)
     : Type 0 where
   pub waits : List Wait
-  pub transfer : (state : State) → Transfer old new (taking state got waits) failing
+  pub transfer : (store : Store) → Transfer old new (taking store got waits) failing
   pub each : All (TakenAt (wait_of (current old.connections)) got Holds) waits
 
 -- they were taken behind those that were unread, of all of which this held at each wait
@@ -124,9 +119,9 @@ pub record TakesBody (old new : Told) (here kept : List ℕ) (missing left : ℕ
 
 -- all these bytes were sent, and nothing else was done
 abbrev pub SentAll : Told → Told → List ℕ → Type 0
-SentAll old new bytes = (state : State) → Transfer old new (acting state state (sends bytes)) nothing
+SentAll old new bytes = (store : Store) → Transfer old new (acting store store (sends bytes)) nothing
 
 -- a first part of them was sent, and then the send failed
 abbrev pub SentPart : Told → Told → List ℕ → Type 0
 SentPart old new bytes =
-    (n : ℕ) × ((state : State) → Transfer old new (acting state state (sends (take n bytes))) sending)
+    (n : ℕ) × ((store : Store) → Transfer old new (acting store store (sends (take n bytes))) sending)

@@ -1,6 +1,7 @@
 // Taking the rest of a body.
 ghost use Rattle.std.specs.Prelude.{◌≡◌, ◌<◌, ◌≤◌, ◌+◌, ℕ, IsTrue, length, take, true, IfOk, OnErr};
-ghost use Rattle.glacier_server.specs.Transfer.{TakesBehind, TakesBody, TakesOf, receiving, nothing, NoneComing, Keeps, receiving_if};
+ghost use Rattle.glacier_server.specs.Transfer.{TakesBehind, TakesBody, TakesOf, NoneComing, Keeps, receiving_if};
+ghost use Rattle.glacier_server.specs.Does.{receiving, nothing};
 
 use glacier_base::Failed;
 use glacier_disk::Station;

@@ -1,13 +1,17 @@
 // A connection from its first byte to its end.
-ghost use Rattle.std.specs.Prelude.{◌≡◌, ◌+◌, ◌<◌, IsTrue, true, IfOk, IfErr, OnErr};
-ghost use Rattle.glacier_server.specs.Served.{ServedLast, PartLast, failing_to};
+ghost use Rattle.std.specs.Prelude.{◌≡◌, ◌+◌, ◌<◌, IsTrue, true, IfOk, IfErr};
+ghost use Rattle.glacier_server.specs.Headline.{HeadlineLast};
+ghost use Rattle.glacier_server.specs.Served.{ServedLast, failing_to};
+ghost use Rattle.glacier_server.specs.Breaking.{PartLast, HasBroken};
 ghost use Rattle.glacier_server.specs.Transfer.{Keeps};
+ghost use Rattle.glacier_store.specs.Stands.{Kept};
 
 use crate::buffers::Buffers;
 use crate::end::{End, ServeFault};
 use crate::service::Service;
-use crate::{Config, Store};
 use glacier_disk::Station;
+use glacier_machine::Config;
+use glacier_store::Store;
 use std::alloc::Global;
 
 impl Service<'_> {
@@ -19,41 +23,55 @@ impl Service<'_> {
         buffers: &mut Buffers,
         store: Store,
     ) -> Result<(End, Store), ServeFault>
-        requires { (S.told station.old).connected ≡ true }
+        requires connected { (S.told station.old).connected ≡ true }
+        requires open { (S.told station.old).opened ≡ true }
         ensures served { IsTrue S.tells → IfOk result (λ r. ServedLast self.now.config.now
             (S.told station.old) (S.told station.new) store r.1 r.0) }
-        ensures broken { IsTrue S.tells → OnErr result (PartLast self.now.config.now
-            (S.told station.old) (S.told station.new) store) }
-        ensures fault { IfErr result (λ fault. fault ≡ ServeFault.Memory) }
+        ensures broken { IsTrue S.tells → IfErr result (λ fault. PartLast self.now.config.now
+            (S.told station.old) (S.told station.new) store fault) }
+        ensures fault { IfErr result
+            (λ fault. HasBroken fault (S.told station.old) (S.told station.new)) }
         ensures keeps { Keeps (S.told station.old) (S.told station.new) (failing_to result) }
     {
         buffers.unread.clear();
         let mut store = store;
         let mut count = 0;
         'messages: loop {
-            match self.one_message(station, buffers, &mut store, count) {
-                Ok(None) => count += 1,
-                Ok(Some(end)) => return Ok((end, store)),
-                Err(_) => return Err(ServeFault::Memory),
+            match self.one_message(station, buffers, store, count) {
+                Ok((None, after)) => {
+                    store = after;
+                    count += 1;
+                }
+                Ok((Some(end), after)) => return Ok((end, after)),
+                Err(fault) => return Err(fault),
             }
         }
     }
 }
 
-/// Answers the messages of the open connection, one after another, until it ends. It takes the
-/// memory for a connection's buffers first.
+/// Answers the messages of the open connection, one after another, until it ends. The memory for a
+/// connection's buffers is taken first, and a message's events are kept before a byte of its reply
+/// is sent.
+///
+/// After an error there is no store. `Disk` says that a call of the disk failed, `JournalEnd` that
+/// the journal has no room for the events of a message, and `Memory` is want of memory; no byte of
+/// the reply to the last message was sent then.
 pub fn serve_connection<S: Station>(
     alloc: Global,
     station: &mut S,
     store: Store,
     config: &Config,
 ) -> Result<(End, Store), ServeFault>
-    requires { (S.told station.old).connected ≡ true }
+    requires connected { (S.told station.old).connected ≡ true }
+    requires open { (S.told station.old).opened ≡ true }
     ensures served { IsTrue S.tells → IfOk result (λ r. ServedLast config.now (S.told station.old)
         (S.told station.new) store r.1 r.0) }
-    ensures broken { IsTrue S.tells → OnErr result (PartLast config.now (S.told station.old)
-        (S.told station.new) store) }
-    ensures fault { IfErr result (λ fault. fault ≡ ServeFault.Memory) }
+    ensures broken { IsTrue S.tells → IfErr result (λ fault. PartLast config.now
+        (S.told station.old) (S.told station.new) store fault) }
+    ensures headline { IsTrue S.tells → Kept (S.told station.old) store →
+        HeadlineLast config.now (S.told station.old) (S.told station.new) store }
+    ensures fault { IfErr result
+        (λ fault. HasBroken fault (S.told station.old) (S.told station.new)) }
     ensures keeps { Keeps (S.told station.old) (S.told station.new) (failing_to result) }
 {
     let service = Service { alloc, config };

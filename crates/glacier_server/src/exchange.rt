@@ -1,16 +1,19 @@
 // One message more on a connection.
-ghost use Rattle.std.specs.Prelude.{◌≡◌, ◌+◌, [], ◌==◌, ◌<◌, ◌≤◌, ◌^◌, IsTrue, length, Some, None, true, IfOk, OnErr};
+ghost use Rattle.std.specs.Prelude.{◌≡◌, ◌+◌, [], ◌==◌, ◌<◌, ◌≤◌, ◌^◌, IsTrue, length, Some, None, true, IfOk, IfErr, OnErr};
 ghost use Rattle.glacier_http.specs.Messages.{bad as Bad, last_end, end_of_rest};
 ghost use Rattle.glacier_http.specs.Step.{IsStep};
 ghost use Rattle.glacier_http.specs.declared.head_spans.HeadStep.TheVariants as step;
-ghost use Rattle.glacier_server.specs.Exchange.{Exchanges, BreaksOff, Standing, BadStands, standing, failing_at, failing_in, failing_on, end_for, end_for_some, end_of_good};
+ghost use Rattle.glacier_server.specs.Exchange.{Exchanges, Standing, BadStands, standing, failing_at, failing_in, failing_on, end_for, end_for_some, end_of_good};
+ghost use Rattle.glacier_server.specs.Breaking.{BreaksOff};
 ghost use Rattle.glacier_server.specs.Served.{failing_of};
-ghost use Rattle.glacier_server.specs.Transfer.{nothing, Keeps};
+ghost use Rattle.glacier_server.specs.Breaking.{HasBroken};
+ghost use Rattle.glacier_server.specs.declared.end.ServeFault.TheVariants as fault;
+ghost use Rattle.glacier_server.specs.Transfer.{Keeps};
+ghost use Rattle.glacier_server.specs.Does.{nothing};
 
-use crate::Store;
 use crate::body::{front_of, take_body};
 use crate::buffers::Buffers;
-use crate::end::End;
+use crate::end::{End, ServeFault};
 use crate::extent::extent_of;
 use crate::next_head::next_head;
 use crate::read_buffer::ReadBuffer;
@@ -19,6 +22,7 @@ use crate::service::Service;
 use glacier_base::Memory;
 use glacier_disk::Station;
 use glacier_http::{BadHead, HeadSpans, HeadStep, MOST_MESSAGES};
+use glacier_store::Store;
 
 /// The end that a bad head makes.
 fn bad_end(count: u64) -> End
@@ -79,11 +83,11 @@ impl Service<'_> {
         requires below { count < MOST_MESSAGES }
         ensures exchange { IsTrue S.tells → (from : Standing) → BadStands from count cause →
             IfOk result (λ end. Exchanges self.now.config.now from
-            (standing (count + 1) from.unread from.state) (S.told station.old) (S.told station.new)
+            (standing (count + 1) from.unread from.store) (S.told station.old) (S.told station.new)
             (Some end)) }
         ensures broken { IsTrue S.tells → (from : Standing) → BadStands from count cause →
             OnErr result (BreaksOff self.now.config.now from (S.told station.old) (S.told
-            station.new)) }
+            station.new) fault.Memory) }
         ensures keeps { Keeps (S.told station.old) (S.told station.new) (failing_on result) }
     {
         let date = station.now();
@@ -104,21 +108,24 @@ impl Service<'_> {
         &self,
         station: &mut S,
         buffers: &mut Buffers,
-        store: &mut Store,
+        store: Store,
         spans: &HeadSpans,
         count: u64,
-    ) -> Result<Option<End>, Memory>
+    ) -> Result<(Option<End>, Store), ServeFault>
         requires connected { (S.told station.old).connected ≡ true }
+        requires open { (S.told station.old).opened ≡ true }
         requires good { IsStep buffers.old.unread buffers.old.head (step.Head spans.now) }
         requires small { spans.now.content_length ≤ 2 ^ 33 }
         requires below { count < MOST_MESSAGES }
-        ensures exchange { IsTrue S.tells → IfOk result (λ end. Exchanges self.now.config.now
-            (standing count buffers.old.unread store.old)
-            (standing (count + 1) buffers.new.unread store.new) (S.told station.old) (S.told
-            station.new) end) }
-        ensures broken { IsTrue S.tells → OnErr result (BreaksOff self.now.config.now
-            (standing count buffers.old.unread store.old) (S.told station.old) (S.told station.new)) }
-        ensures below { result ≡ Ok None → count + 1 < MOST_MESSAGES }
+        ensures exchange { IsTrue S.tells → IfOk result (λ r. Exchanges self.now.config.now
+            (standing count buffers.old.unread store) (standing (count + 1) buffers.new.unread r.1)
+            (S.told station.old) (S.told station.new) r.0) }
+        ensures broken { IsTrue S.tells → IfErr result (λ fault. BreaksOff self.now.config.now
+            (standing count buffers.old.unread store) (S.told station.old) (S.told station.new)
+            fault) }
+        ensures fault { IfErr result
+            (λ fault. HasBroken fault (S.told station.old) (S.told station.new)) }
+        ensures below { IfOk result (λ r. r.0 ≡ None → count + 1 < MOST_MESSAGES) }
         ensures keeps { Keeps (S.told station.old) (S.told station.new) (failing_in result) }
     {
         let reading = station.now();
@@ -128,18 +135,20 @@ impl Service<'_> {
         let size = spans.content_length;
         let left = match take_body(station, &mut buffers.body, here, extent.left, size) {
             Ok(left) => left,
-            Err(_) => return Ok(Some(End::ReadFault)),
+            Err(_) => return Ok((Some(End::ReadFault), store)),
         };
         if left > 0 {
-            return Ok(Some(End::Cut {
+            let end = End::Cut {
                 taken: length as u64 + (extent.left - left),
-            }));
+            };
+            return Ok((Some(end), store));
         }
         let lent = &*buffers;
         let kept = front_of(&lent.body, size);
-        let reply = match self.reply_to_message(store, lent, spans, kept, reading) {
-            Ok(reply) => reply,
-            Err(error) => return Err(error),
+        let replied = self.reply_to_message(station, store, lent, spans, kept, reading);
+        let (reply, store) = match replied {
+            Ok(replied) => replied,
+            Err(fault) => return Err(fault),
         };
         let end = good_end(count, spans.close);
         let stamp = Stamp {
@@ -149,9 +158,9 @@ impl Service<'_> {
         match send_reply(station, &reply, &stamp, &mut buffers.reply) {
             Ok(()) => {
                 buffers.unread.skip(extent.used);
-                Ok(end)
+                Ok((end, store))
             }
-            Err(_) => Ok(Some(End::SendFault)),
+            Err(_) => Ok((Some(End::SendFault), store)),
         }
     }
 
@@ -161,35 +170,38 @@ impl Service<'_> {
         &self,
         station: &mut S,
         buffers: &mut Buffers,
-        store: &mut Store,
+        store: Store,
         count: u64,
-    ) -> Result<Option<End>, Memory>
+    ) -> Result<(Option<End>, Store), ServeFault>
         requires connected { (S.told station.old).connected ≡ true }
+        requires open { (S.told station.old).opened ≡ true }
         requires below { count < MOST_MESSAGES }
-        ensures exchange { IsTrue S.tells → IfOk result (λ end. Exchanges self.now.config.now
-            (standing count buffers.old.unread store.old)
-            (standing (count + 1) buffers.new.unread store.new) (S.told station.old) (S.told
-            station.new) end) }
-        ensures broken { IsTrue S.tells → OnErr result (BreaksOff self.now.config.now
-            (standing count buffers.old.unread store.old) (S.told station.old) (S.told station.new)) }
-        ensures below { result ≡ Ok None → count + 1 < MOST_MESSAGES }
+        ensures exchange { IsTrue S.tells → IfOk result (λ r. Exchanges self.now.config.now
+            (standing count buffers.old.unread store) (standing (count + 1) buffers.new.unread r.1)
+            (S.told station.old) (S.told station.new) r.0) }
+        ensures broken { IsTrue S.tells → IfErr result (λ fault. BreaksOff self.now.config.now
+            (standing count buffers.old.unread store) (S.told station.old) (S.told station.new)
+            fault) }
+        ensures fault { IfErr result
+            (λ fault. HasBroken fault (S.told station.old) (S.told station.new)) }
+        ensures below { IfOk result (λ r. r.0 ≡ None → count + 1 < MOST_MESSAGES) }
         ensures keeps { Keeps (S.told station.old) (S.told station.new) (failing_in result) }
     {
         match next_head(station, &mut buffers.head, &mut buffers.unread) {
             Ok(HeadStep::Head(spans)) => {
                 match self.answer(station, buffers, store, &spans, count) {
-                    Ok(end) => Ok(end),
-                    Err(error) => Err(error),
+                    Ok((end, store)) => Ok((end, store)),
+                    Err(fault) => Err(fault),
                 }
             }
             Ok(HeadStep::Bad(cause)) => {
                 match self.refuse(station, &mut buffers.reply, cause, count) {
-                    Ok(end) => Ok(Some(end)),
-                    Err(error) => Err(error),
+                    Ok(end) => Ok((Some(end), store)),
+                    Err(_) => Err(ServeFault::Memory),
                 }
             }
-            Ok(HeadStep::Need) => Ok(Some(ended(&buffers.unread))),
-            Err(_) => Ok(Some(End::ReadFault)),
+            Ok(HeadStep::Need) => Ok((Some(ended(&buffers.unread)), store)),
+            Err(_) => Ok((Some(End::ReadFault), store)),
         }
     }
 }

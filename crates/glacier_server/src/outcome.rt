@@ -1,19 +1,23 @@
 // The machine's outcome of each message.
-ghost use Rattle.std.specs.Prelude.{◌≡◌, ℕ, List, length, IfOk, IfErr, OnOk, OnErr};
+ghost use Rattle.std.specs.Prelude.{◌≡◌, ℕ, List, length, IsTrue, true, IfOk, IfErr};
 ghost use Rattle.glacier_http.specs.Spans.{IsGood};
-ghost use Rattle.glacier_machine.specs.Outcomes.{after_all, refusal_outcome, request_outcome, rules_of, one};
+ghost use Rattle.glacier_machine.specs.Outcomes.{refusal_outcome, request_outcome, rules_of, one};
 ghost use Rattle.glacier_machine.specs.Refusals.{head_refusal, HasAsciiText};
 ghost use Rattle.glacier_machine.specs.SignedRequests.{IsKept};
+ghost use Rattle.glacier_server.specs.Events.{KeepsEvents, IsCallFault, IsFault};
 ghost use Rattle.glacier_server.specs.Front.{AtFront};
-ghost use Rattle.glacier_server.specs.Machine.{HasShortNames, IsPrintableIn, told_of, told_head, after};
+ghost use Rattle.glacier_server.specs.Machine.{HasShortNames, IsPrintableIn, told_of, told_head, happened};
+ghost use Rattle.glacier_server.specs.Breaking.{ShowsDisk};
 
-use crate::Store;
 use crate::buffers::Buffers;
+use crate::end::ServeFault;
 use crate::reply_sender::MOST_HEAD_TEXT;
 use crate::service::Service;
 use glacier_base::{Memory, Moment};
+use glacier_disk::Disk;
 use glacier_http::{BadHead, Head, HeadSpans, Reply};
 use glacier_machine::{Action, Request, bad_head_refusal, read_request, refusal_reply};
+use glacier_store::{Store, StoreFault};
 use glacier_vault::{Refusal, Rules};
 use std::alloc::Global;
 
@@ -36,95 +40,133 @@ fn names_are_short(rules: &Rules, action: &Action)
         Action::CreateVault { vault } => {
             let _name = vault.bytes();
         }
-        Action::DescribeVault { .. } => {}
+        Action::DescribeVault { .. } | Action::DeleteVault { .. } => {}
+    }
+}
+
+/// What a fault of a store's call is to the server.
+fn fault_of(fault: StoreFault) -> ServeFault
+    requires { IsCallFault fault }
+    ensures { IsFault fault result }
+{
+    match fault {
+        StoreFault::Disk => ServeFault::Disk,
+        StoreFault::Memory => ServeFault::Memory,
+        StoreFault::End { length } => ServeFault::JournalEnd { length },
+        StoreFault::NotAJournal { .. } => unreachable!(),
+        StoreFault::NotEmpty { .. } => unreachable!(),
     }
 }
 
 impl Service<'_> {
     /// Does what is requested of an account, and keeps what it changes.
-    fn reply_to_request(
+    fn reply_to_request<D: Disk>(
         &self,
-        store: &mut Store,
+        disk: &mut D,
+        store: Store,
         request: &Request,
         reading: Moment,
-    ) -> Result<Reply, Memory>
-        ensures reply { IfOk result (λ r. r ≡ (told_of
-            (rules_of self.now.config.now request.now.account) store.old request.now reading).reply) }
-        ensures store { OnOk result (store.new ≡ after_all store.old (told_of
-            (rules_of self.now.config.now request.now.account) store.old request.now reading).events) }
-        ensures printable { IfOk result (IsPrintableIn MOST_HEAD_TEXT) }
-        ensures err { OnErr result (store.new ≡ store.old) }
+    ) -> Result<(Reply, Store), ServeFault>
+        requires { (D.told disk.old).opened ≡ true }
+        ensures reply { IfOk result (λ r. r.0 ≡ (told_of
+            (rules_of self.now.config.now request.now.account) store.accounts request.now
+            reading).reply) }
+        ensures printable { IfOk result (λ r. IsPrintableIn MOST_HEAD_TEXT r.0) }
+        ensures keeps { IsTrue D.tells → KeepsEvents (D.told disk.old) (D.told disk.new) store
+            (told_of (rules_of self.now.config.now request.now.account) store.accounts request.now
+            reading).events result }
+        ensures fault { ShowsDisk result (D.told disk.old) (D.told disk.new) }
+        ensures alone { D.by_disk disk.old disk.new }
     {
         let rules = self.config.rules(request.account);
         names_are_short(&rules, &request.action);
-        store.apply(self.alloc, &rules, request, reading)
-    }
-
-    /// The reply to what was read of a message, which changes the store.
-    fn reply_to_read(
-        &self,
-        store: &mut Store,
-        request: &Result<Request, Refusal>,
-        reading: Moment,
-    ) -> Result<Reply, Memory>
-        requires { IfErr request.now HasAsciiText }
-        ensures reply { IfOk result (λ r. r ≡ (request_outcome self.now.config.now store.old
-            request.now reading).reply) }
-        ensures store { OnOk result (store.new ≡ after_all store.old
-            (request_outcome self.now.config.now store.old request.now reading).events) }
-        ensures printable { IfOk result (IsPrintableIn MOST_HEAD_TEXT) }
-        ensures err { OnErr result (store.new ≡ store.old) }
-    {
-        match request {
-            Ok(request) => self.reply_to_request(store, request, reading),
-            Err(refusal) => reply_to_refused(self.alloc, refusal),
+        match store.pass(disk, &request.account, reading) {
+            Ok((store, m)) => match store.apply(self.alloc, disk, &rules, m, &request.action) {
+                Ok((store, answer)) => Ok((answer.reply, store)),
+                Err(fault) => Err(fault_of(fault)),
+            },
+            Err(fault) => Err(fault_of(fault)),
         }
     }
 
-    /// The reply to a good head with a body of this length, of which this is kept. It changes the
-    /// store.
-    fn reply_to_head(
+    /// The reply to what was read of a message, whose events are kept.
+    fn reply_to_read<D: Disk>(
         &self,
-        store: &mut Store,
+        disk: &mut D,
+        store: Store,
+        request: &Result<Request, Refusal>,
+        reading: Moment,
+    ) -> Result<(Reply, Store), ServeFault>
+        requires open { (D.told disk.old).opened ≡ true }
+        requires ascii { IfErr request.now HasAsciiText }
+        ensures reply { IfOk result (λ r. r.0 ≡ (request_outcome self.now.config.now store.accounts
+            request.now reading).reply) }
+        ensures printable { IfOk result (λ r. IsPrintableIn MOST_HEAD_TEXT r.0) }
+        ensures keeps { IsTrue D.tells → KeepsEvents (D.told disk.old) (D.told disk.new) store
+            (request_outcome self.now.config.now store.accounts request.now reading).events result }
+        ensures fault { ShowsDisk result (D.told disk.old) (D.told disk.new) }
+        ensures alone { D.by_disk disk.old disk.new }
+    {
+        match request {
+            Ok(request) => self.reply_to_request(disk, store, request, reading),
+            Err(refusal) => match reply_to_refused(self.alloc, refusal) {
+                Ok(reply) => Ok((reply, store)),
+                Err(_) => Err(ServeFault::Memory),
+            },
+        }
+    }
+
+    /// The reply to a good head with a body of this length, of which this is kept. The events are
+    /// kept.
+    fn reply_to_head<D: Disk>(
+        &self,
+        disk: &mut D,
+        store: Store,
         head: &Head<'_>,
         size: u64,
         kept: &[u8],
         reading: Moment,
-    ) -> Result<Reply, Memory>
+    ) -> Result<(Reply, Store), ServeFault>
+        requires { (D.told disk.old).opened ≡ true }
         ensures reply { (body : List ℕ) → length body ≡ size → IsKept kept.now body → IfOk result
-            (λ r. r ≡ (told_head self.now.config.now store.old head.now body reading).reply) }
-        ensures store { (body : List ℕ) → length body ≡ size → IsKept kept.now body →
-            OnOk result (store.new ≡ after_all store.old
-            (told_head self.now.config.now store.old head.now body reading).events) }
-        ensures printable { IfOk result (IsPrintableIn MOST_HEAD_TEXT) }
-        ensures err { OnErr result (store.new ≡ store.old) }
+            (λ r. r.0 ≡ (told_head self.now.config.now store.accounts head.now body reading).reply) }
+        ensures printable { IfOk result (λ r. IsPrintableIn MOST_HEAD_TEXT r.0) }
+        ensures keeps { IsTrue D.tells → (body : List ℕ) → length body ≡ size →
+            IsKept kept.now body → KeepsEvents (D.told disk.old) (D.told disk.new) store
+            (told_head self.now.config.now store.accounts head.now body reading).events result }
+        ensures fault { ShowsDisk result (D.told disk.old) (D.told disk.new) }
+        ensures alone { D.by_disk disk.old disk.new }
     {
         match read_request(self.alloc, self.config, head, size, kept, reading) {
-            Ok(request) => self.reply_to_read(store, &request, reading),
-            Err(error) => Err(error),
+            Ok(request) => self.reply_to_read(disk, store, &request, reading),
+            Err(_) => Err(ServeFault::Memory),
         }
     }
 
     /// The reply to the message at the front of the unread bytes, by its head and what is kept of
-    /// its body, which changes the store. An error is want of memory, and changes nothing.
-    pub fn reply_to_message(
+    /// its body. The events are kept before it answers.
+    pub fn reply_to_message<D: Disk>(
         &self,
-        store: &mut Store,
+        disk: &mut D,
+        store: Store,
         buffers: &Buffers,
         spans: &HeadSpans,
         kept: &[u8],
         reading: Moment,
-    ) -> Result<Reply, Memory>
-        requires { IsGood buffers.now.unread buffers.now.head spans.now }
+    ) -> Result<(Reply, Store), ServeFault>
+        requires open { (D.told disk.old).opened ≡ true }
+        requires good { IsGood buffers.now.unread buffers.now.head spans.now }
         ensures reply { AtFront buffers.now.unread spans.now kept.now (λ m. IfOk result
-            (λ r. r ≡ (one self.now.config.now store.old m reading).reply)) }
-        ensures store { AtFront buffers.now.unread spans.now kept.now (λ m. OnOk result
-            (store.new ≡ after self.now.config.now store.old m reading)) }
-        ensures printable { IfOk result (IsPrintableIn MOST_HEAD_TEXT) }
-        ensures err { OnErr result (store.new ≡ store.old) }
+            (λ r. r.0 ≡ (one self.now.config.now store.accounts m reading).reply)) }
+        ensures printable { IfOk result (λ r. IsPrintableIn MOST_HEAD_TEXT r.0) }
+        ensures keeps { IsTrue D.tells → AtFront buffers.now.unread spans.now kept.now
+            (λ m. KeepsEvents (D.told disk.old) (D.told disk.new) store
+            (happened self.now.config.now store.accounts m reading) result) }
+        ensures fault { ShowsDisk result (D.told disk.old) (D.told disk.new) }
+        ensures alone { D.by_disk disk.old disk.new }
     {
         let head = spans.view(buffers.unread.bytes(), &buffers.head);
-        self.reply_to_head(store, &head, spans.content_length, kept, reading)
+        self.reply_to_head(disk, store, &head, spans.content_length, kept, reading)
     }
 
     /// The reply to a bad head, after which the connection closes.

@@ -1,12 +1,16 @@
 // The connections that come, one after another.
 ghost use Rattle.std.specs.Prelude.{◌≡◌, ◌+◌, ◌<◌, ◌≤◌, IsTrue, true, false, IfOk, IfErr, if◌then◌else◌};
-ghost use Rattle.glacier_server.specs.Serving.{Serves, Breaks, Broken, JustAccepted, ServesOn, Accepting};
+ghost use Rattle.glacier_server.specs.Headline.{Headline};
+ghost use Rattle.glacier_server.specs.Breaking.{ShowsDisk};
+ghost use Rattle.glacier_server.specs.Serving.{Serves, Breaks, Broken, JustAccepted, ServesOn, ShowsFault};
+ghost use Rattle.glacier_store.specs.Stands.{Kept};
 
 use crate::buffers::Buffers;
 use crate::end::ServeFault;
 use crate::service::Service;
-use crate::{Config, Store};
 use glacier_disk::Station;
+use glacier_machine::Config;
+use glacier_store::Store;
 use std::alloc::Global;
 
 impl Service<'_> {
@@ -17,14 +21,15 @@ impl Service<'_> {
         buffers: &mut Buffers,
         store: Store,
     ) -> Result<Store, ServeFault>
-        requires { (S.told station.old).connected ≡ true }
+        requires connected { (S.told station.old).connected ≡ true }
+        requires open { (S.told station.old).opened ≡ true }
         ensures served { IsTrue S.tells → (old : S) →
             JustAccepted (S.told old) (S.told station.old) store → IfOk result
             (λ after. Serves self.now.config.now (S.told old) (S.told station.new) store after 1) }
         ensures broken { IsTrue S.tells → (old : S) →
             JustAccepted (S.told old) (S.told station.old) store → IfErr result
             (λ fault. Breaks self.now.config.now (S.told old) (S.told station.new) store 1 fault) }
-        ensures fault { IfErr result (λ fault. fault ≡ ServeFault.Memory) }
+        ensures fault { ShowsDisk result (S.told station.old) (S.told station.new) }
         ensures kept { (S.told station.old).listener.listening ≡ true →
             ServesOn (S.told station.old) (S.told station.new) }
         ensures accepts { (S.told station.new).listener.faults
@@ -51,6 +56,7 @@ impl Service<'_> {
     ) -> Result<(bool, Store), ServeFault>
         requires listening { (S.told station.old).listener.listening ≡ true }
         requires free { (S.told station.old).connected ≡ false }
+        requires open { (S.told station.old).opened ≡ true }
         ensures served { IsTrue S.tells → IfOk result (λ r. Serves self.now.config.now
             (S.told station.old) (S.told station.new) store r.1 (if r.0 then 1 else 0)) }
         ensures broken { IsTrue S.tells → IfErr result (λ fault. Breaks self.now.config.now
@@ -58,7 +64,7 @@ impl Service<'_> {
         ensures none { IsTrue S.tells →
             IfOk result (λ r. r.0 ≡ false → (S.told station.new).listener.to_come ≡ 0) }
         ensures kept { ServesOn (S.told station.old) (S.told station.new) }
-        ensures accepts { Accepting result (S.told station.old) (S.told station.new) }
+        ensures fault { ShowsFault result (S.told station.old) (S.told station.new) }
     {
         match station.accept() {
             Ok(true) => match self.serve_accepted(station, buffers, store) {
@@ -72,8 +78,12 @@ impl Service<'_> {
 }
 
 /// Serves so many connections, one after another, or all that come where they are fewer. It answers
-/// how many it served. A connection on which a call fails ends alone. The memory for a connection's
-/// buffers is taken once, before the first connection.
+/// how many it served. A connection on which a call of the network fails ends alone. The memory for
+/// a connection's buffers is taken once, before the first connection.
+///
+/// After an error there is no store. `Disk` says that a call of the disk failed, `JournalEnd` that
+/// the journal has no room for the events of a message, `Memory` is want of memory, and `Accept`
+/// says that an accept failed.
 #[tactic(auto, using(crate::proofs::KeepLemmas::on_then))]
 pub fn serve<S: Station>(
     alloc: Global,
@@ -84,15 +94,18 @@ pub fn serve<S: Station>(
 ) -> Result<(u64, Store), ServeFault>
     requires listening { (S.told station.old).listener.listening ≡ true }
     requires free { (S.told station.old).connected ≡ false }
+    requires open { (S.told station.old).opened ≡ true }
     ensures served { IsTrue S.tells → IfOk result (λ r. Serves config.now (S.told station.old)
         (S.told station.new) store r.1 r.0) }
     ensures broken { IsTrue S.tells → IfErr result (λ fault. Broken config.now
         (S.told station.old) (S.told station.new) store connections fault) }
+    ensures headline { IsTrue S.tells → Kept (S.told station.old) store →
+        Headline config.now (S.told station.old) (S.told station.new) store }
     ensures most { IfOk result (λ r. r.0 ≤ connections) }
     ensures fewer { IsTrue S.tells →
         IfOk result (λ r. r.0 < connections → (S.told station.new).listener.to_come ≡ 0) }
     ensures kept { ServesOn (S.told station.old) (S.told station.new) }
-    ensures accepts { Accepting result (S.told station.old) (S.told station.new) }
+    ensures fault { ShowsFault result (S.told station.old) (S.told station.new) }
 {
     let service = Service { alloc, config };
     let mut buffers = match Buffers::new(alloc) {

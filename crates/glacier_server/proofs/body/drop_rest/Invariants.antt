@@ -1,5 +1,6 @@
 use Rattle.std.proofs.Common.{◌≤◌, IsTrue}
-use Rattle.glacier_server.specs.Transfer.{TakesOf, nothing, Keeps}
+use Rattle.glacier_server.specs.Transfer.{TakesOf, Keeps}
+use Rattle.glacier_server.specs.Does.{nothing}
 use Rattle.glacier_server.proofs.body.drop_rest.Given as goal
 
 abbrev pub invariant-loop-left : goal.invariant-loop-left

@@ -1,5 +1,5 @@
 use borrow.Rule.Slice.PartMut.{put_mid}
-use Rattle.std.proofs.Common.{rules, ◌≡◌, ◌<◌, ◌≤◌, ◌-◌, ◌+◌, ◌∙◌, ◌++◌, ℕ, List, length, take, arith, ap, sym, Ok}
+use Rattle.std.proofs.Common.{rules, ◌≡◌, ◌≤◌, ◌-◌, ◌+◌, ◌∙◌, ℕ, length, take, arith, ap, Ok}
 use Rattle.std.proofs.lemmas.List.{length-take-le}
 use Rattle.glacier_server.proofs.KeepLemmas.{keeps_self, keeps_then}
 use Rattle.glacier_server.proofs.ListLemmas.{filled_more}

@@ -1,5 +1,6 @@
 use Rattle.std.proofs.Common.{◌-◌, ◌<◌, ◌≤◌, ◌≡◌, IsTrue, length, take}
-use Rattle.glacier_server.specs.Transfer.{TakesBehind, nothing, Keeps}
+use Rattle.glacier_server.specs.Transfer.{TakesBehind, Keeps}
+use Rattle.glacier_server.specs.Does.{nothing}
 use Rattle.glacier_server.proofs.body.keep_rest.Given as goal
 
 abbrev pub invariant-loop-filled : goal.invariant-loop-filled

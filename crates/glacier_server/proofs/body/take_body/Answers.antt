@@ -1,7 +1,8 @@
 use Rattle.std.proofs.Common.{rules, ◌≡◌, ◌<◌, ◌≤◌, ◌-◌, ℕ, List, length, take, refl, subst, arith}
 use Rattle.std.proofs.lemmas.List.{length-take-le}
 use Rattle.glacier_machine.specs.declared.content_hash.TheConstants.{MOST_BODY}
-use Rattle.glacier_server.specs.Transfer.{TakesBehind, receiving}
+use Rattle.glacier_server.specs.Transfer.{TakesBehind}
+use Rattle.glacier_server.specs.Does.{receiving}
 use Rattle.glacier_server.proofs.BodyLemmas.{dropped, kept_behind}
 use Rattle.glacier_server.proofs.TransferLemmas.{of_behind}
 use Rattle.glacier_server.proofs.body.take_body.Goals as goal

@@ -1,7 +1,8 @@
 use Rattle.std.proofs.Common.{◌-◌, IsTrue, length}
 use Rattle.glacier_http.specs.Opening.{HasNoOpening}
 use Rattle.glacier_http.specs.declared.limits.TheConstants.{MOST_HEAD}
-use Rattle.glacier_server.specs.Transfer.{TakesBehind, nothing, Keeps}
+use Rattle.glacier_server.specs.Transfer.{TakesBehind, Keeps}
+use Rattle.glacier_server.specs.Does.{nothing}
 use Rattle.glacier_server.proofs.next_head.next_head.Given as goal
 
 abbrev pub invariant-search : goal.invariant-search

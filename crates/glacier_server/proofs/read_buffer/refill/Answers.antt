@@ -1,7 +1,8 @@
 use borrow.Rule.Slice.PartMut.{put_mid}
 use Rattle.std.proofs.Common.{rules, ◌≡◌, ◌-◌, ℕ, List, [], length, take, drop, sym, subst, arith}
 use Rattle.std.specs.Prelude.{Ok}
-use Rattle.glacier_server.specs.Transfer.{Takes, nothing}
+use Rattle.glacier_server.specs.Transfer.{Takes}
+use Rattle.glacier_server.specs.Does.{nothing}
 use Rattle.glacier_server.proofs.ListLemmas.{tail_put}
 use Rattle.glacier_server.proofs.StepLemmas.{takes_once, none_coming}
 use Rattle.glacier_server.proofs.read_buffer.refill.Goals as goal

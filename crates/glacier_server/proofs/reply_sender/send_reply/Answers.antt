@@ -2,7 +2,7 @@ use Rattle.std.proofs.Common.{◌++◌, ◌∙◌, List, ℕ, Bool, take, [], sy
 use Rattle.std.specs.Prelude.{if◌then◌else◌}
 use Rattle.glacier_server.specs.Transfer.{SentAll, SentPart}
 use Rattle.glacier_server.proofs.StepLemmas.{sent_all, sent_part}
-use Rattle.glacier_server.proofs.TransferLemmas.{sent_then, part_then, part_front}
+use Rattle.glacier_server.proofs.SendLemmas.{sent_then, part_then, part_front}
 use Rattle.glacier_server.proofs.reply_sender.send_reply.Goals as goal
 
 pub returns-then-printed-clause-sent : goal.returns-then-printed-clause-sent

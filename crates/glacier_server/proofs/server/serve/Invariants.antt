@@ -8,7 +8,8 @@ invariant-connections g l = record {
   served : IsTrue g.S.Disk.tells → Serves l.fn.config (g.S.Disk.told l.fn.station)
       (g.S.Disk.told l.station) l.initial.store l.store l.count;
   kept : ServesOn (g.S.Disk.told l.fn.station) (g.S.Disk.told l.station);
-  accepts : (g.S.Disk.told l.station).listener.faults ≡ (g.S.Disk.told l.fn.station).listener.faults;
+  faults : ((g.S.Disk.told l.station).listener.faults ≡ (g.S.Disk.told l.fn.station).listener.faults)
+      × ((g.S.Disk.told l.station).disk_faults ≡ (g.S.Disk.told l.fn.station).disk_faults);
 }
 
 abbrev pub decreases-connections : goal.decreases-connections

@@ -4,6 +4,7 @@ use Rattle.glacier_http.specs.declared.head_spans.HeadStep.{HeadStep}
 use Rattle.glacier_http.specs.declared.head_spans.HeadStep.TheVariants as step
 use Rattle.glacier_server.proofs.ExchangeLemmas.{ends_behind, fails_behind, exchanges_behind, breaks_behind}
 use Rattle.glacier_server.proofs.ExtentLemmas.{content_small}
+use Rattle.glacier_server.proofs.KeepLemmas.{keeps_then, keeps_break}
 use Rattle.glacier_server.proofs.service.Service.one_message.Goals as goal
 
 pub answer-requires-clause-small : goal.answer-requires-clause-small
@@ -38,3 +39,11 @@ returns-in-Ok-Need-clause-exchange g c t =
 
 pub returns-in-Err-clause-exchange : goal.returns-in-Err-clause-exchange
 returns-in-Err-clause-exchange g c t = fails_behind (c.in-Err.ensures.takes t) c.in-Err.ensures.need _ refl
+
+pub returns-in-Err-refuse-clause-fault : goal.returns-in-Err-refuse-clause-fault
+returns-in-Err-refuse-clause-fault g c =
+    (keeps_then c.in-Ok-Bad.ensures.keeps c.in-Err-refuse.ensures.keeps).counts.2
+
+pub returns-in-Err-refuse-clause-keeps : goal.returns-in-Err-refuse-clause-keeps
+returns-in-Err-refuse-clause-keeps g c =
+    keeps_break (keeps_then c.in-Ok-Bad.ensures.keeps c.in-Err-refuse.ensures.keeps)

@@ -1,8 +1,6 @@
-use Rattle.std.proofs.Common.{◌∙◌, ◌+◌, ap, sym, subst}
+use Rattle.std.proofs.Common.{◌∙◌, ◌+◌, ap, sym}
 use Rattle.glacier_disk.specs.Told.{Listener}
-use Rattle.glacier_server.specs.declared.end.ServeFault.{ServeFault}
-use Rattle.glacier_server.specs.Serving.{Breaks}
-use Rattle.glacier_server.proofs.ServingLemmas.{serves_one, breaks_one}
+use Rattle.glacier_server.proofs.AcceptedLemmas.{serves_one, breaks_one}
 use Rattle.glacier_server.proofs.service.Service.serve_accepted.Goals as goal
 
 pub returns-in-Ok-clause-served : goal.returns-in-Ok-clause-served
@@ -17,8 +15,6 @@ returns-in-Ok-clause-served g c t old opens =
 pub returns-in-Err-clause-broken : goal.returns-in-Err-clause-broken
 returns-in-Err-clause-broken g c t old opens =
     let last = (g.met.S.Disk.lawful t c.serve_open.new.station).connected_last c.serve_open.ensures.keeps.connected in
-    subst (λ (f : ServeFault). Breaks c.args.self.now.config.now (g.S.Disk.told old)
-    (g.S.Disk.told c.hang_up-in-Err.new.self) c.args.store 1 f) (sym c.in-Err.ensures.fault)
-    (breaks_one (g.S.Disk.told old) (g.S.Disk.told c.args.station.now) (g.S.Disk.told c.serve_open.new.station)
+    breaks_one (g.S.Disk.told old) (g.S.Disk.told c.args.station.now) (g.S.Disk.told c.serve_open.new.station)
     (g.S.Disk.told c.hang_up-in-Err.new.self)
-    opens last c.hang_up-in-Err.ensures.call (c.in-Err.ensures.broken t))
+    opens last c.hang_up-in-Err.ensures.call c.in-Err.fault (c.in-Err.ensures.broken t)

@@ -1,7 +1,8 @@
 use Rattle.std.proofs.Common.{◌<◌, ◌-◌, IsTrue}
 use Rattle.glacier_http.specs.declared.limits.TheConstants.{MOST_MESSAGES}
 use Rattle.glacier_server.specs.Exchange.{standing}
-use Rattle.glacier_server.specs.Transfer.{Keeps, nothing}
+use Rattle.glacier_server.specs.Transfer.{Keeps}
+use Rattle.glacier_server.specs.Does.{nothing}
 use Rattle.glacier_server.proofs.ConnectionLemmas.{SoFarLast}
 use Rattle.glacier_server.proofs.service.Service.serve_open.Given as goal
 
