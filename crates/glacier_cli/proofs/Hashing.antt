@@ -1,5 +1,5 @@
 -- How a content is hashed, of which one buffer is read at a time.
-use Rattle.std.proofs.Common.{◌≡◌, ◌≤◌, ◌<◌, ◌+◌, ◌%◌, ◌++◌, ◌∙◌, ℕ, zero, suc, Bool, IsTrue, true, List, [], length, take, Option, Result, Ok, ap, sym, arith, append_assoc, append-nil, take_all}
+use Rattle.std.proofs.Common.{◌≡◌, ◌≤◌, ◌<◌, ◌+◌, ◌%◌, ◌++◌, ◌∙◌, ℕ, zero, suc, Bool, IsTrue, true, List, [], length, take, Option, Ok, ap, sym, arith, append_assoc, append-nil, take_all}
 use Rattle.glacier_base.specs.ToldFiles.{ToldFiles}
 use Rattle.glacier_base.specs.declared.files.TheConstants.{MOST_READ}
 use Rattle.glacier_treehash.specs.Hasher.{HasTaken, Takes, fed_length}

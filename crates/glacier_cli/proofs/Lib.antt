@@ -1,6 +1,9 @@
+pub mod BeginLemmas
 pub mod Filled
+pub mod FolderLemmas
 pub mod Hashing
 pub mod KeyPrefixLemmas
-pub mod ListenLemmas
 pub mod PartLemmas
-pub mod ProgramLemmas
+pub mod ReasonLemmas
+pub mod ServeRunLemmas
+pub mod StationLemmas

@@ -1,5 +1,5 @@
 -- What a run read of its key file.
-use Rattle.std.specs.Prelude.{◌≡◌, ℕ, IsTrue, List, Option, Some, Result, Ok, Err}
+use Rattle.std.specs.Prelude.{◌≡◌, ℕ, IsTrue, List, Some, Result, Ok, Err}
 use Rattle.glacier_base.specs.Outside.{one_more}
 use Rattle.glacier_sigv4.specs.KeyFile.{entries_of}
 use Rattle.glacier_sigv4.specs.declared.ring.Entry.{Entry}

@@ -1,18 +1,18 @@
--- What a run of the program does: which ending stands for the words, and what each status says.
-use Rattle.std.specs.Prelude.{◌≡◌, ◌⊎◌, ◌≤◌, ℕ, IsTrue, List, [], ◌∷◌, ◌++◌, Option, Some, None, Err}
-use Rattle.hex.specs.Hex.{encode_lower}
+-- Which ending stands for the words, and for what a run did.
+use Rattle.std.specs.Prelude.{◌≡◌, ◌⊎◌, ◌≤◌, true, false, ℕ, IsTrue, List, Option, Some, None}
 use Rattle.glacier_base.specs.Outside.{one_more, HasRisen}
-use Rattle.glacier_treehash.specs.Tree.{tree_hash_of}
 use Rattle.glacier_sigv4.specs.declared.ring.Entry.{Entry}
-use Rattle.glacier_server.specs.declared.end.ServeFault.TheVariants.{Memory, Accept}
+use Rattle.glacier_server.specs.declared.end.ServeFault.{ServeFault}
+use Rattle.glacier_server.specs.declared.end.ServeFault.TheVariants as server
 use Rattle.glacier_cli.specs.declared.ending.Ending.{Ending}
-use Rattle.glacier_cli.specs.declared.ending.Ending.TheVariants.{Hashed, Served, Usage, FileFault, NoMemory, ListenerFault}
+use Rattle.glacier_cli.specs.declared.ending.Ending.TheVariants.{Hashed, Served, Usage, FileFault, NoMemory, DiskFault, ListenerFault, NotAJournal, NotEmpty, JournalEnd}
 use Rattle.glacier_cli.specs.declared.serve.TheConstants.{CONNECTIONS}
-use Rattle.glacier_cli.specs.Endings.{SinkUse, served_line}
-use Rattle.glacier_cli.specs.FileUse.{FileUse, GivesNone, GivesOne, GivesAtMost, IsHashOf}
-use Rattle.glacier_cli.specs.Forms.{Form, hash, serve}
-use Rattle.glacier_cli.specs.KeyUse.{HasKeys, KeysEnd, Spells}
-use Rattle.glacier_cli.specs.StationUse.{StationUse, Idle, ListensAt, ListensAtMost, ServesAt, BreaksAt}
+use Rattle.glacier_cli.specs.Beginning.{HasNoStore}
+use Rattle.glacier_cli.specs.FileUse.{FileUse, GivesOne, GivesAtMost, IsHashOf}
+use Rattle.glacier_cli.specs.Forms.{Form, ServeWords, hash, serve}
+use Rattle.glacier_cli.specs.KeyUse.{HasKeys, KeysEnd}
+use Rattle.glacier_cli.specs.Serving.{ServesAt, ServesTill, BreaksAt, Headline}
+use Rattle.glacier_cli.specs.StationUse.{StationUse, Idle, NoneCame, NoFault, OpensAll, OpensNoMore}
 
 -- how the tree hash of this name ends: a fault is the last call that was made, and without memory no call was made
 abbrev pub HashEnds : FileUse → Option (List ℕ) → Ending → Type 0
@@ -22,77 +22,55 @@ HashEnds files name FileFault = (files.after.faults ≡ one_more files.before.fa
 HashEnds files name NoMemory = files.after ≡ files.before
 HashEnds files name ending = ⊥
 
--- how serving the accounts of a ring at this address ends
-abbrev pub ListenEnds : StationUse → List Entry → List ℕ → Ending → Type 0
-ListenEnds station ring address (Served count) =
-    (count ≤ CONNECTIONS) × (station.after.listener.faults ≡ station.before.listener.faults)
-    × (IsTrue station.tells → ServesAt station ring address count)
-ListenEnds station ring address NoMemory =
-    (station.after.listener.faults ≡ station.before.listener.faults)
-    × (IsTrue station.tells → ListensAt station address × BreaksAt station ring Memory)
-ListenEnds station ring address ListenerFault =
+-- the ending that a fault of a server makes
+abbrev pub of_server : ServeFault → Ending
+of_server server.Disk = DiskFault
+of_server server.Memory = NoMemory
+of_server (server.JournalEnd length) = JournalEnd length
+of_server server.Accept = ListenerFault
+
+-- the folder was opened and nothing was served, since no store stands in it
+pub record Refused (station : StationUse) (words : ServeWords) (ending : Ending) : Type 0 where
+  pub opens : OpensNoMore station words
+  pub none : NoneCame station
+  pub why : HasNoStore words.is_new station.before.reads ending
+
+-- how serving the accounts of a ring ends, from the opening of the folder on
+abbrev pub FolderEnds : StationUse → List Entry → ServeWords → Ending → Type 0
+FolderEnds station ring words (Served count) = (count ≤ CONNECTIONS) × NoFault station
+    × (IsTrue station.tells → ServesAt station ring words count)
+FolderEnds station ring words NoMemory =
+    NoFault station × (IsTrue station.tells → BreaksAt station ring words server.Memory)
+FolderEnds station ring words DiskFault =
+    HasRisen station.before.disk_faults station.after.disk_faults
+    × (station.after.listener.faults ≡ station.before.listener.faults)
+    × (IsTrue station.tells → BreaksAt station ring words server.Disk)
+FolderEnds station ring words ListenerFault =
     (station.after.listener.faults ≡ one_more station.before.listener.faults)
-    × (IsTrue station.tells → ListensAtMost station address × BreaksAt station ring Accept)
-ListenEnds station ring address ending = ⊥
+    × (station.after.disk_faults ≡ station.before.disk_faults)
+    × (IsTrue station.tells → BreaksAt station ring words server.Accept)
+FolderEnds station ring words (NotAJournal area at) = (words.is_new ≡ false) × NoFault station
+    × (IsTrue station.tells → Refused station words (NotAJournal area at))
+FolderEnds station ring words (NotEmpty area size) = (words.is_new ≡ true) × NoFault station
+    × (IsTrue station.tells → Refused station words (NotEmpty area size))
+FolderEnds station ring words (JournalEnd length) =
+    NoFault station × (IsTrue station.tells → OpensAll station words × ServesTill station ring words (server.JournalEnd length))
+FolderEnds station ring words ending = ⊥
 
 -- how serving ends: there is no ring and nothing happens at the station, or the key file spells a ring
-abbrev pub ServeEnds : FileUse → StationUse → List ℕ → List ℕ → Ending → Type 0
-ServeEnds files station keys address ending =
-    (KeysEnd files keys ending × Idle station)
-    ⊎ ((ring : List Entry) × HasKeys files keys ring × ListenEnds station ring address ending)
+abbrev pub ServeEnds : FileUse → StationUse → ServeWords → Ending → Type 0
+ServeEnds files station words ending =
+    (KeysEnd files words.keys ending × Idle station)
+    ⊎ ((ring : List Entry) × HasKeys files words.keys ring × FolderEnds station ring words ending)
 
 -- the ending stands for the form, and for what was done with the files and at the station
 abbrev pub StandsFor : Option Form → FileUse → StationUse → Ending → Type 0
 StandsFor (Some (hash name)) files station ending = HashEnds files name ending × Idle station
-StandsFor (Some (serve keys address)) files station ending = ServeEnds files station keys address ending
+StandsFor (Some (serve words)) files station ending = ServeEnds files station words ending
 StandsFor None files station Usage = (files.after ≡ files.before) × Idle station
 StandsFor None files station ending = ⊥
 
--- a content was read to its end, and the 64 digits of its tree hash were written, and a line feed
-abbrev pub PrintsHash : FileUse → SinkUse → Option (List ℕ) → Type 0
-PrintsHash files sink name =
-    (bytes : List ℕ) × (files.before.content name ≡ Some bytes) × (files.after.rest ≡ [])
-    × (files.after.names ≡ files.before.names ++ name ∷ [])
-    × (sink.after.written ≡ sink.before.written ++ (encode_lower (tree_hash_of bytes) ++ 10 ∷ []))
-
--- the accounts of a ring were served at this address, and how many connections came was written
-abbrev pub PrintsServed : StationUse → SinkUse → List Entry → List ℕ → Type 0
-PrintsServed station sink ring address =
-    (count : ℕ) × (count ≤ CONNECTIONS) × ServesAt station ring address count
-    × (sink.after.written ≡ sink.before.written ++ served_line count)
-
--- `hash` at status 0, and where no read and no write failed
-pub record HashRun (files : FileUse) (sink : SinkUse) (name : Option (List ℕ)) (status : ℕ) : Type 0 where
-  pub printed : status ≡ 0 → IsTrue files.tells → IsTrue sink.tells → PrintsHash files sink name
-  pub without_fault : (HasRisen files.before.faults files.after.faults → ⊥)
-      → (HasRisen sink.before.faults sink.after.faults → ⊥) → (status ≡ 0) ⊎ (status ≡ 4)
-
--- `serve` at status 0, at status 3, and where no read, no call of the listener and no write failed
-pub record ServeRun (files : FileUse) (station : StationUse) (sink : SinkUse) (keys address : List ℕ) (status : ℕ)
-    : Type 0 where
-  pub printed : status ≡ 0 → IsTrue station.tells → IsTrue sink.tells
-      → (ring : List Entry) × HasKeys files keys ring × PrintsServed station sink ring address
-  pub nothing_else : status ≡ 3 → GivesAtMost files (Some keys) × Idle station
-  pub without_fault : (HasRisen files.before.faults files.after.faults → ⊥)
-      → (HasRisen station.before.listener.faults station.after.listener.faults → ⊥)
-      → (HasRisen sink.before.faults sink.after.faults → ⊥)
-      → (status ≡ 0) ⊎ (status ≡ 4) ⊎ ((status ≡ 3) × ((line : ℕ) × Spells files keys (Err line)))
-
--- words of no form: nothing is opened, not standard input either
-pub record UsageRun (files : FileUse) (status : ℕ) : Type 0 where
-  pub ends : (status ≡ 2) ⊎ (status ≡ 7)
-  pub nothing_opened : GivesNone files
-
--- a line of the key file is bad
-abbrev pub HasBadLine : Option Form → FileUse → Type 0
-HasBadLine (Some (serve keys address)) files = (line : ℕ) × Spells files keys (Err line)
-HasBadLine form files = ⊥
-
--- why a status comes: the words are none of the forms, a read failed or a line of the key file is bad, or a call of the
--- listener or a write failed
-pub record HasReason (form : Option Form) (files : FileUse) (station : StationUse) (sink : SinkUse) (status : ℕ)
-    : Type 0 where
-  pub usage : status ≡ 2 → form ≡ None
-  pub file_fault : status ≡ 3 → HasRisen files.before.faults files.after.faults ⊎ HasBadLine form files
-  pub listener_fault : status ≡ 6 → HasRisen station.before.listener.faults station.after.listener.faults
-  pub sink_fault : status ≡ 7 → HasRisen sink.before.faults sink.after.faults
+-- the headline, for the ring that the key file spells; without one nothing happened at the station
+abbrev pub HeadlineOf : FileUse → StationUse → ServeWords → Type 0
+HeadlineOf files station words =
+    (ring : List Entry) × (HasKeys files words.keys ring ⊎ Idle station) × Headline station ring words

@@ -1,15 +1,11 @@
--- What a run did at a station: the address where it listened, and the connections that it served.
-use Rattle.std.specs.Prelude.{◌≡◌, ◌⊎◌, ◌<◌, Bool, ℕ, List, [], ◌∷◌, ◌++◌, codes}
-use Rattle.std.specs.FinMap as map
+-- What a run did at a station: the folder that it opened, and the address where it listened.
+use Rattle.std.specs.Prelude.{◌≡◌, ◌⊎◌, Bool, List, [], ◌∷◌, ◌++◌, codes}
 use Rattle.glacier_disk.specs.Told.{Told}
 use Rattle.glacier_machine.specs.declared.config.Config.{Config}
 use Rattle.glacier_sigv4.specs.declared.ring.Entry.{Entry}
-use Rattle.glacier_server.specs.declared.end.ServeFault.{ServeFault}
-use Rattle.glacier_server.specs.Machine.{State}
-use Rattle.glacier_server.specs.Serving.{Serves, Broken}
-use Rattle.glacier_cli.specs.declared.serve.TheConstants.{CONNECTIONS}
+use Rattle.glacier_cli.specs.Forms.{ServeWords}
 
--- what a station told before a run and after it, and whether it tells what comes and what is sent
+-- what a station told before a run and after it, and whether it tells what comes, what is sent and what the disk holds
 pub record StationUse : Type 1 where
   pub tells : Bool
   pub before : Told
@@ -18,39 +14,37 @@ pub record StationUse : Type 1 where
 abbrev pub station_use : Bool → Told → Told → StationUse
 station_use tells before after = record { tells = tells; before = before; after = after }
 
+-- no connection came, and no reading was taken
+pub record NoneCame (station : StationUse) : Type 0 where
+  pub connections : station.after.connections ≡ station.before.connections
+  pub readings : station.after.readings ≡ station.before.readings
+
 -- nothing happened there
 pub record Idle (station : StationUse) : Type 0 where
   pub listener : station.after.listener ≡ station.before.listener
   pub folders : station.after.folders ≡ station.before.folders
-  pub connections : station.after.connections ≡ station.before.connections
-  pub readings : station.after.readings ≡ station.before.readings
+  pub none : NoneCame station
 
 -- the accounts of a ring, with the region and the delays of a server that is told of no others
 abbrev pub default_config : List Entry → Config
 default_config ring = record { region = codes "us-east-1"; ring = ring; delays = 300 ∷ 14400 ∷ 28800 ∷ [] }
 
--- no folder was opened, and this address was listened at, once, and no other
-abbrev pub ListensAt : StationUse → List ℕ → Type 0
-ListensAt station address =
-    (station.after.listener.addresses ≡ station.before.listener.addresses ++ address ∷ [])
-    × (station.after.folders ≡ station.before.folders)
+-- this folder was opened, and this address was listened at, each once, and no other
+pub record OpensAll (station : StationUse) (words : ServeWords) : Type 0 where
+  pub folder : station.after.folders ≡ station.before.folders ++ words.folder ∷ []
+  pub address : station.after.listener.addresses ≡ station.before.listener.addresses ++ words.address ∷ []
 
--- no folder was opened, and this address was listened at at most once, and no other
-abbrev pub ListensAtMost : StationUse → List ℕ → Type 0
-ListensAtMost station address =
-    ((station.after.listener.addresses ≡ station.before.listener.addresses)
-    ⊎ (station.after.listener.addresses ≡ station.before.listener.addresses ++ address ∷ []))
-    × (station.after.folders ≡ station.before.folders)
+-- the folder alone was opened, at most
+pub record OpensNoMore (station : StationUse) (words : ServeWords) : Type 0 where
+  pub folder : (station.after.folders ≡ station.before.folders)
+      ⊎ (station.after.folders ≡ station.before.folders ++ words.folder ∷ [])
+  pub address : station.after.listener.addresses ≡ station.before.listener.addresses
 
--- so many connections came to this address and the accounts of the ring were served on them, from the state of no
--- account on; fewer than the most only where none is left to come
-pub record ServesAt (station : StationUse) (ring : List Entry) (address : List ℕ) (count : ℕ) : Type 0 where
-  pub listens : ListensAt station address
-  pub state : State
-  pub serves : Serves (default_config ring) station.before station.after map.empty state count
-  pub fewer : count < CONNECTIONS → station.after.listener.to_come ≡ 0
+-- no other name was given, and the address only once the folder was open
+abbrev pub OpensAtMost : StationUse → ServeWords → Type 0
+OpensAtMost station words = OpensNoMore station words ⊎ OpensAll station words
 
--- those that came before the fault, no more than the most, were served so, from the state of no account on, or memory was
--- wanting before the first
-abbrev pub BreaksAt : StationUse → List Entry → ServeFault → Type 0
-BreaksAt station ring fault = Broken (default_config ring) station.before station.after map.empty CONNECTIONS fault
+-- no call of the disk failed, and none of the listener
+pub record NoFault (station : StationUse) : Type 0 where
+  pub disk : station.after.disk_faults ≡ station.before.disk_faults
+  pub listener : station.after.listener.faults ≡ station.before.listener.faults

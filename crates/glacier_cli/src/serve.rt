@@ -1,14 +1,18 @@
-// Serving at an address.
-ghost use Rattle.std.specs.Prelude.{◌≡◌, false};
+// Serving what a folder holds, at an address.
+ghost use Rattle.std.specs.Prelude.{◌≡◌, IsTrue, false};
 ghost use Rattle.glacier_cli.specs.FileUse.{KeepsContents, file_use};
-ghost use Rattle.glacier_cli.specs.Program.{ListenEnds, ServeEnds};
+ghost use Rattle.glacier_cli.specs.Program.{FolderEnds, HeadlineOf, ServeEnds, of_server};
+ghost use Rattle.glacier_cli.specs.Serving.{Headline};
+ghost use Rattle.glacier_cli.specs.Forms.{serve_words};
 ghost use Rattle.glacier_cli.specs.StationUse.{default_config, station_use};
 
+use crate::begin::begin;
+use crate::command::Serving;
 use crate::ending::Ending;
 use crate::keys::read_keys;
 use glacier_base::{Files, Region};
 use glacier_disk::Station;
-use glacier_server::{Config, ServeFault, Store, serve};
+use glacier_server::{Config, ServeFault, serve};
 use glacier_sigv4::KeyRing;
 use std::alloc::Global;
 
@@ -29,42 +33,68 @@ fn default_config(ring: KeyRing) -> Config
     }
 }
 
-/// Listens at the address, and serves the accounts of the ring on the connections that come, one
-/// after another.
-fn serve_at<S: Station>(alloc: Global, ring: KeyRing, address: &str, station: &mut S) -> Ending
-    requires not_listening { (S.told station.old).listener.listening ≡ false }
-    requires not_connected { (S.told station.old).connected ≡ false }
-    ensures { ListenEnds (station_use S.tells (S.told station.old) (S.told station.new))
-        ring address.now result }
+/// The ending that a fault of a server makes.
+fn server_ending(fault: ServeFault) -> Ending
+    ensures { result ≡ of_server fault }
 {
-    if station.listen(address).is_err() {
-        return Ending::ListenerFault;
-    }
-    let store = Store::empty(alloc);
-    match serve(alloc, station, store, &default_config(ring), CONNECTIONS) {
-        Ok((count, _)) => Ending::Served(count),
-        Err(ServeFault::Memory) => Ending::NoMemory,
-        Err(ServeFault::Accept) => Ending::ListenerFault,
+    match fault {
+        ServeFault::Disk => Ending::DiskFault,
+        ServeFault::Memory => Ending::NoMemory,
+        ServeFault::JournalEnd { length } => Ending::JournalEnd(length),
+        ServeFault::Accept => Ending::ListenerFault,
     }
 }
 
-/// Reads the key file, and then serves its accounts at the address.
+/// Makes or opens the store in the folder, listens at the address, and serves the accounts of the
+/// ring on the connections that come, one after another.
+fn serve_folder<S: Station>(
+    alloc: Global,
+    ring: KeyRing,
+    serving: &Serving,
+    station: &mut S,
+) -> Ending
+    requires closed { (S.told station.old).opened ≡ false }
+    requires not_listening { (S.told station.old).listener.listening ≡ false }
+    requires not_connected { (S.told station.old).connected ≡ false }
+    ensures ends { FolderEnds (station_use S.tells (S.told station.old) (S.told station.new))
+        ring (serve_words serving.now) result }
+    ensures headline { IsTrue S.tells →
+        Headline (station_use S.tells (S.told station.old) (S.told station.new))
+        ring (serve_words serving.now) }
+{
+    let store = match begin(alloc, serving, station) {
+        Ok(store) => store,
+        Err(ending) => return ending,
+    };
+    if station.listen(serving.address).is_err() {
+        return Ending::ListenerFault;
+    }
+    match serve(alloc, station, store, &default_config(ring), CONNECTIONS) {
+        Ok((count, _)) => Ending::Served(count),
+        Err(fault) => server_ending(fault),
+    }
+}
+
+/// Reads the key file, and then serves its accounts from the folder, at the address.
 pub(crate) fn serve_keys<F: Files, S: Station>(
     alloc: Global,
-    keys: &str,
-    address: &str,
+    serving: &Serving,
     files: &mut F,
     station: &mut S,
 ) -> Ending
+    requires closed { (S.told station.old).opened ≡ false }
     requires not_listening { (S.told station.old).listener.listening ≡ false }
     requires not_connected { (S.told station.old).connected ≡ false }
     ensures ends { ServeEnds (file_use F.tells (F.told files.old) (F.told files.new))
         (station_use S.tells (S.told station.old) (S.told station.new))
-        keys.now address.now result }
+        (serve_words serving.now) result }
+    ensures headline { IsTrue S.tells →
+        HeadlineOf (file_use F.tells (F.told files.old) (F.told files.new))
+        (station_use S.tells (S.told station.old) (S.told station.new)) (serve_words serving.now) }
     ensures contents { KeepsContents (file_use F.tells (F.told files.old) (F.told files.new)) }
 {
-    match read_keys(alloc, keys, files) {
-        Ok(ring) => serve_at(alloc, ring, address, station),
+    match read_keys(alloc, serving.keys, files) {
+        Ok(ring) => serve_folder(alloc, ring, serving, station),
         Err(ending) => ending,
     }
 }

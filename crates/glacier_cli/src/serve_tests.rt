@@ -3,6 +3,8 @@ use crate::tests::{Run, USAGE, is_run, quiet};
 
 const SERVE: &str = "serve folder keys --listen 127.0.0.1:8080";
 
+const SERVE_NEW: &str = "serve folder keys --listen 127.0.0.1:8080 --new";
+
 // Signed requests, as bench/signed_texts.py prints them.
 const PUT: &str = "PUT /-/vaults/examplevault HTTP/1.1\r\n\
     host: 127.0.0.1:8080\r\n\
@@ -35,8 +37,10 @@ const MADE_AND_DESCRIBED: &str = "HTTP/1.1 201 Created\r\n\
     \"VaultName\":\"examplevault\"}";
 
 /// The inputs, the calls of the station and of the sink that are to fail, the status, what is
-/// printed and what is sent.
-const SERVED: [(&[&str], &[u64], &[u64], u8, &str, &str); 10] = [
+/// printed and what is sent. The station's calls are: the folder is opened, four sizes, a header is
+/// written and synced, Lead too, 9 listens, 10 accepts, 11 receives, 12 writes the record, 13
+/// syncs, 14 writes its gate, 15 syncs, 16 sends, 17 receives, 18 accepts.
+const SERVED: [(&[&str], &[u64], &[u64], u8, &str, &str); 14] = [
     (
         &[PUT, GET],
         &[],
@@ -46,11 +50,15 @@ const SERVED: [(&[&str], &[u64], &[u64], u8, &str, &str); 10] = [
         MADE_AND_DESCRIBED,
     ),
     (&[], &[], &[], 0, "served 0 connections\n", ""),
-    (&[PUT], &[0], &[], 6, "listener fault\n", ""),
-    (&[PUT], &[1], &[], 6, "listener fault\n", ""),
-    (&[PUT], &[2], &[], 0, "served 1 connections\n", ""),
-    (&[PUT], &[3], &[], 0, "served 1 connections\n", ""),
-    (&[PUT], &[5], &[], 6, "listener fault\n", MADE),
+    (&[PUT], &[0], &[], 5, "disk fault\n", ""),
+    (&[PUT], &[8], &[], 5, "disk fault\n", ""),
+    (&[PUT], &[9], &[], 6, "listener fault\n", ""),
+    (&[PUT], &[10], &[], 6, "listener fault\n", ""),
+    (&[PUT], &[11], &[], 0, "served 1 connections\n", ""),
+    (&[PUT], &[12], &[], 5, "disk fault\n", ""),
+    (&[PUT], &[15], &[], 5, "disk fault\n", ""),
+    (&[PUT], &[16], &[], 0, "served 1 connections\n", ""),
+    (&[PUT], &[18], &[], 6, "listener fault\n", MADE),
     (&[PUT], &[], &[0], 7, "", MADE),
     (&[PUT], &[], &[1], 7, "served ", MADE),
     (&[PUT], &[], &[2], 7, "served 1", MADE),
@@ -63,11 +71,59 @@ fn connections_are_served_and_counted(rt: HostRuntime) {
             inputs,
             station_faults,
             sink_faults,
-            ..quiet(SERVE)
+            ..quiet(SERVE_NEW)
         };
         assert!(rt;
             is_run(&rt, rt.alloc(), &given, status, printed, sent) == Some(true),
             "{status} {printed}"
+        );
+    }
+}
+
+const CREATED: &str = "glacier journal1\0";
+
+/// Words, Lead and Left, the status, what is printed and what is sent.
+const FOLDERS: [(&str, &str, &str, u8, &str, &str); 5] = [
+    (SERVE, "\0", CREATED, 0, "served 1 connections\n", MADE),
+    (SERVE, "", "", 8, "not a journal: lead at 0\n", ""),
+    (
+        SERVE,
+        "\0",
+        "Glacier journal1\0",
+        8,
+        "not a journal: left at 0\n",
+        "",
+    ),
+    (
+        SERVE_NEW,
+        "\0",
+        CREATED,
+        8,
+        "not empty: lead has 1 bytes\n",
+        "",
+    ),
+    (
+        SERVE_NEW,
+        "",
+        CREATED,
+        8,
+        "not empty: left has 17 bytes\n",
+        "",
+    ),
+];
+
+#[test]
+fn a_folder_holds_a_store_or_is_empty(rt: HostRuntime) {
+    for (words, lead, left, status, printed, sent) in FOLDERS {
+        let given = Run {
+            lead,
+            left,
+            inputs: &[PUT],
+            ..quiet(words)
+        };
+        assert!(rt;
+            is_run(&rt, rt.alloc(), &given, status, printed, sent) == Some(true),
+            "{printed}"
         );
     }
 }
@@ -79,6 +135,8 @@ serve folder keys --listen
 serve folder keys --port 127.0.0.1:8080
 serve --listen 127.0.0.1:8080 folder keys
 serve folder keys --listen 127.0.0.1:8080 more
+serve folder keys --listen 127.0.0.1:8080 --new more
+serve --new folder keys --listen 127.0.0.1:8080
 server folder keys --listen 127.0.0.1:8080
 serve folder keys --listen h\u{e9}:8080";
 
@@ -109,6 +167,8 @@ fn an_address_has_at_most_255_bytes(rt: HostRuntime) {
     for (length, status, printed) in ADDRESSES {
         let given = Run {
             letters: Some(length),
+            lead: "\0",
+            left: CREATED,
             ..quiet("serve folder keys --listen")
         };
         assert!(rt;

@@ -1,0 +1,100 @@
+"""What the scripts under bench/ share: signed requests, connections to a server that is started, and its replies."""
+import hashlib
+import hmac
+import os
+import socket
+import subprocess
+import time
+
+ROOT = os.path.dirname(os.path.dirname(os.path.abspath(__file__)))
+PROGRAM = f"{ROOT}/crates/glacier_cli/out/glacier_cli"
+KEYS = ("111122223333", "AKIDEXAMPLE", "wJalrXUtnFEMI/K7MDENG+bPxRfiCYEXAMPLEKEY")
+KEPT = 1000
+
+
+def signed(method, path, more=""):
+    """Returns a request, signed by Signature Version 4 at this moment, with further fields that aren't."""
+    moment = time.strftime("%Y%m%dT%H%M%SZ", time.gmtime())
+    fields = {"host": "h", "x-amz-date": moment, "x-amz-glacier-version": "2012-06-01"}
+    names = ";".join(fields)
+    lines = "".join(f"{name}:{value}\n" for name, value in fields.items())
+    canonical = f"{method}\n{path}\n\n{lines}\n{names}\n{hashlib.sha256(b'').hexdigest()}"
+    scope = f"{moment[:8]}/us-east-1/glacier/aws4_request"
+    key = ("AWS4" + KEYS[2]).encode()
+    for part in scope.split("/"):
+        key = hmac.new(key, part.encode(), hashlib.sha256).digest()
+    text = f"AWS4-HMAC-SHA256\n{moment}\n{scope}\n{hashlib.sha256(canonical.encode()).hexdigest()}"
+    signature = hmac.new(key, text.encode(), hashlib.sha256).hexdigest()
+    head = "".join(f"{name}: {value}\r\n" for name, value in fields.items())
+    credential = f"Credential={KEYS[1]}/{scope}, SignedHeaders={names}, Signature={signature}"
+    return f"{method} {path} HTTP/1.1\r\n{head}Authorization: AWS4-HMAC-SHA256 {credential}\r\n{more}\r\n".encode()
+
+
+def build():
+    """Builds the program, before anything is signed: that may take longer than a signature is good for."""
+    subprocess.run([f"{ROOT}/glacier", "hash", "/dev/null"], stdout=subprocess.DEVNULL, check=True)
+
+
+def write_keys(name):
+    with open(name, "w", encoding="ascii") as it:
+        it.write(" ".join(KEYS) + " 64\n")
+
+
+def free_port():
+    with socket.socket() as it:
+        it.bind(("127.0.0.1", 0))
+        return it.getsockname()[1]
+
+
+def serving(folder, keys, port, *more, before=()):
+    """Starts the program that was built, to serve what the folder holds. Words before it run it under another one."""
+    words = [*before, PROGRAM, "serve", folder, keys, "--listen", f"127.0.0.1:{port}", *more]
+    return subprocess.Popen(words, stdout=subprocess.PIPE)
+
+
+def connected(port, process=None, patience=60.0):
+    """Connects as soon as the server listens."""
+    until = time.monotonic() + patience
+    while True:
+        try:
+            it = socket.create_connection(("127.0.0.1", port), timeout=30)
+            it.setsockopt(socket.IPPROTO_TCP, socket.TCP_NODELAY, 1)
+            return it
+        except ConnectionRefusedError:
+            if process is not None and process.poll() is not None:
+                raise SystemExit(f"the server ended with {process.returncode}: {process.stdout.read().decode()}")
+            if time.monotonic() > until:
+                raise
+            time.sleep(0.0005)
+
+
+class Replies:
+    """The replies on a connection, in order."""
+
+    def __init__(self, connection):
+        self.connection = connection
+        self.kept = b""
+
+    def more(self):
+        """Takes more bytes. It answers whether any came before the connection ended."""
+        try:
+            more = self.connection.recv(65536)
+        except ConnectionError:
+            return False
+        self.kept += more
+        return more != b""
+
+    def next(self):
+        """Returns the status and the body of the next reply, or None where the connection ends before its end."""
+        while b"\r\n\r\n" not in self.kept:
+            if not self.more():
+                return None
+        head, _, rest = self.kept.partition(b"\r\n\r\n")
+        lengths = [int(it.split(b":")[1]) for it in head.split(b"\r\n") if it.lower().startswith(b"content-length:")]
+        length = lengths[0] if lengths else 0
+        while len(rest) < length:
+            if not self.more():
+                return None
+            _, _, rest = self.kept.partition(b"\r\n\r\n")
+        self.kept = rest[length:]
+        return int(head.split(b" ")[1]), rest[:length]
