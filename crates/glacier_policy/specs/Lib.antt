@@ -1,0 +1,10 @@
+pub mod Conditions
+pub mod Denials
+pub mod Faults
+pub mod Form
+pub mod Meaning
+pub mod Patterns
+pub mod Policies
+pub mod Reads
+pub mod Texts
+pub mod Views
