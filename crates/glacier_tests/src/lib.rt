@@ -2,6 +2,8 @@
 #![tactic(auto)]
 
 #[cfg(test)]
+mod area_file_tests;
+#[cfg(test)]
 mod base_tests;
 #[cfg(test)]
 mod disk_tests;
@@ -14,13 +16,19 @@ mod http_reply_tests;
 #[cfg(test)]
 mod http_tests;
 #[cfg(test)]
+mod journal_tests;
+#[cfg(test)]
 mod map_tests;
 #[cfg(test)]
 mod outside_tests;
 #[cfg(test)]
 mod plans;
 #[cfg(test)]
+mod replay_tests;
+#[cfg(test)]
 mod server_tests;
+#[cfg(test)]
+mod session_tests;
 #[cfg(test)]
 mod signed_replies;
 #[cfg(test)]
@@ -31,6 +39,8 @@ mod signed_tests;
 mod sigv4_tests;
 #[cfg(test)]
 mod stop_tests;
+#[cfg(test)]
+mod store_tests;
 #[cfg(test)]
 mod treehash_tests;
 #[cfg(test)]

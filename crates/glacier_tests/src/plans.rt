@@ -43,3 +43,17 @@ pub fn mem_plan(alloc: Global, plan: &Plan) -> Option<MemPlan> {
         faults,
     })
 }
+
+/// Lead, Left and Right of a disk; Blobs is empty.
+pub type Image = (&'static [u8], &'static [u8], &'static [u8]);
+
+/// A plan of a disk with these areas, to which nobody comes, and of which no call fails.
+pub fn disk_plan(alloc: Global, image: &Image) -> Option<MemPlan> {
+    let (lead, left, right) = *image;
+    let lead = Text::of(alloc, lead).ok()?;
+    let left = Text::of(alloc, left).ok()?;
+    let right = Text::of(alloc, right).ok()?;
+    let mut plan = MemPlan::empty(alloc);
+    plan.areas = [lead, left, right, Text::new(alloc)];
+    Some(plan)
+}

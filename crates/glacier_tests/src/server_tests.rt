@@ -1,19 +1,20 @@
 // Connections of a station in memory: what is sent on each, to the byte, and how it ends.
-ghost use Rattle.std.specs.Prelude.{◌≡◌, true, false};
+ghost use Rattle.std.specs.Prelude.{◌≡◌, true, false, OnSome};
 
 use crate::plans::{Plan, mem_plan};
 use glacier_base::Region;
 use glacier_disk::{MemStation, Station};
 use glacier_machine::Config;
-use glacier_server::{End, Store, serve, serve_connection};
+use glacier_server::{End, serve, serve_connection};
 use glacier_sigv4::KeyRing;
+use glacier_store::Store;
 use std::alloc::Global;
 
 /// Two accounts.
 const KEYS: &[u8] =
     b"111122223333 AKIDEXAMPLE wJalrXUtnFEMI/K7MDENG+bPxRfiCYEXAMPLEKEY 64\n444455556666 AKIDOTHER another/secret 64\n";
 
-fn config(alloc: Global) -> Option<Config> {
+pub fn config(alloc: Global) -> Option<Config> {
     let region = Region::parse(b"us-east-1")?;
     let ring = KeyRing::read(alloc, KEYS).ok()?;
     Some(Config {
@@ -35,11 +36,33 @@ fn plan<'a>(inputs: &'a [&'a [u8]], pieces: &'a [usize], faults: &'a [u64]) -> P
     }
 }
 
-fn connection_end<S: Station>(alloc: Global, station: &mut S) -> Option<End>
-    requires { (S.told station.old).connected ≡ true }
+/// Makes a store in the folder, and listens. The nine calls of the disk come first.
+fn store_at<S: Station>(alloc: Global, station: &mut S) -> Option<Store>
+    requires closed { (S.told station.old).opened ≡ false }
+    requires listening { (S.told station.old).listener.listening ≡ false }
+    requires free { (S.told station.old).connected ≡ false }
+    ensures open { OnSome result ((S.told station.new).opened ≡ true) }
+    ensures listening { OnSome result ((S.told station.new).listener.listening ≡ true) }
+    ensures free { OnSome result ((S.told station.new).connected ≡ false) }
+{
+    if station.open("here").is_err() {
+        return None;
+    }
+    match Store::create(alloc, station) {
+        Ok(store) => match station.listen("there") {
+            Ok(()) => Some(store),
+            Err(_) => None,
+        },
+        Err(_) => None,
+    }
+}
+
+fn connection_end<S: Station>(alloc: Global, station: &mut S, store: Store) -> Option<End>
+    requires open { (S.told station.old).opened ≡ true }
+    requires connected { (S.told station.old).connected ≡ true }
 {
     match config(alloc) {
-        Some(config) => match serve_connection(alloc, station, Store::empty(alloc), &config) {
+        Some(config) => match serve_connection(alloc, station, store, &config) {
             Ok((end, _)) => Some(end),
             Err(_) => None,
         },
@@ -47,12 +70,13 @@ fn connection_end<S: Station>(alloc: Global, station: &mut S) -> Option<End>
     }
 }
 
-fn accepted_end<S: Station>(alloc: Global, station: &mut S) -> Option<End>
+fn accepted_end<S: Station>(alloc: Global, station: &mut S, store: Store) -> Option<End>
+    requires open { (S.told station.old).opened ≡ true }
     requires listening { (S.told station.old).listener.listening ≡ true }
     requires free { (S.told station.old).connected ≡ false }
 {
     match station.accept() {
-        Ok(true) => connection_end(alloc, station),
+        Ok(true) => connection_end(alloc, station, store),
         Ok(false) => None,
         Err(_) => None,
     }
@@ -60,21 +84,23 @@ fn accepted_end<S: Station>(alloc: Global, station: &mut S) -> Option<End>
 
 /// How the first connection ends.
 fn first_end<S: Station>(alloc: Global, station: &mut S) -> Option<End>
+    requires closed { (S.told station.old).opened ≡ false }
     requires listening { (S.told station.old).listener.listening ≡ false }
     requires free { (S.told station.old).connected ≡ false }
 {
-    match station.listen("here") {
-        Ok(()) => accepted_end(alloc, station),
-        Err(_) => None,
+    match store_at(alloc, station) {
+        Some(store) => accepted_end(alloc, station, store),
+        None => None,
     }
 }
 
-fn serve_some<S: Station>(alloc: Global, station: &mut S) -> Option<u64>
+fn serve_some<S: Station>(alloc: Global, station: &mut S, store: Store) -> Option<u64>
+    requires open { (S.told station.old).opened ≡ true }
     requires listening { (S.told station.old).listener.listening ≡ true }
     requires free { (S.told station.old).connected ≡ false }
 {
     match config(alloc) {
-        Some(config) => match serve(alloc, station, Store::empty(alloc), &config, 9) {
+        Some(config) => match serve(alloc, station, store, &config, 9) {
             Ok((count, _)) => Some(count),
             Err(_) => None,
         },
@@ -84,12 +110,13 @@ fn serve_some<S: Station>(alloc: Global, station: &mut S) -> Option<u64>
 
 /// How many connections are served, where none of the station's accepts fails.
 fn served<S: Station>(alloc: Global, station: &mut S) -> Option<u64>
+    requires closed { (S.told station.old).opened ≡ false }
     requires listening { (S.told station.old).listener.listening ≡ false }
     requires free { (S.told station.old).connected ≡ false }
 {
-    match station.listen("here") {
-        Ok(()) => serve_some(alloc, station),
-        Err(_) => None,
+    match store_at(alloc, station) {
+        Some(store) => serve_some(alloc, station, store),
+        None => None,
     }
 }
 
@@ -148,14 +175,14 @@ fn ends(rt: HostRuntime) {
     }
 }
 
-/// The call that fails, how the first connection ends and how many connections are served. The
-/// calls are listen, accept, receive, send, receive.
+/// The call that fails, how the first connection ends and how many connections are served. Behind
+/// the nine calls that make a store they are listen, accept, receive, send, receive.
 const FAULTS: [(u64, Option<End>, Option<u64>); 6] = [
-    (0, None, None),
-    (1, None, None),
-    (2, Some(End::ReadFault), Some(2)),
-    (3, Some(End::SendFault), Some(2)),
-    (4, Some(End::ReadFault), Some(2)),
+    (9, None, None),
+    (10, None, None),
+    (11, Some(End::ReadFault), Some(2)),
+    (12, Some(End::SendFault), Some(2)),
+    (13, Some(End::ReadFault), Some(2)),
     (99, Some(End::Closed), Some(2)),
 ];
 

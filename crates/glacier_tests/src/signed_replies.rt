@@ -10,11 +10,19 @@ pub const MADE_LATER: &str = "HTTP/1.1 201 Created\r\n\
     Location: /111122223333/vaults/examplevault\r\n\
     Content-Length: 0\r\n\r\n";
 
+pub const MADE_VAULT: &str = "HTTP/1.1 201 Created\r\n\
+    Date: Fri, 25 May 2012 00:24:53 GMT\r\n\
+    Location: /111122223333/vaults/v\r\n\
+    Content-Length: 0\r\n\r\n";
+
 pub const DESCRIBED: &str = "HTTP/1.1 200 OK\r\n\
     Date: Fri, 25 May 2012 00:24:53 GMT\r\n\
     Content-Type: application/json\r\n\
     Content-Length: 204\r\n\r\n\
     {\"CreationDate\":\"2012-05-25T00:24:53.000Z\",\"LastInventoryDate\":null,\"NumberOfArchives\":0,\"SizeInBytes\":0,\"VaultARN\":\"arn:aws:glacier:us-east-1:111122223333:vaults/examplevault\",\"VaultName\":\"examplevault\"}";
+
+pub const DELETED: &str = "HTTP/1.1 204 No Content\r\n\
+    Date: Fri, 25 May 2012 00:24:53 GMT\r\n\r\n";
 
 pub const NO_SUCH: &str = "HTTP/1.1 404 Not Found\r\n\
     Date: Fri, 25 May 2012 00:24:53 GMT\r\n\

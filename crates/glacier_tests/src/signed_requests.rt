@@ -117,11 +117,47 @@ pub const PUT_OF_A_LONG_BODY: &str = "PUT /-/vaults/examplevault HTTP/1.1\r\n\
     Authorization: AWS4-HMAC-SHA256 Credential=AKIDEXAMPLE/20120525/us-east-1/glacier/aws4_request, SignedHeaders=host;x-amz-content-sha256;x-amz-date;x-amz-glacier-version, Signature=7c14d4757dcba64da499ce0f0cfe2f84658dad07618d3cf8431ef9321bb3626f\r\n\
     Content-Length: 1048577\r\n\r\n";
 
+pub const PUT_VAULT: &str = "PUT /111122223333/vaults/v HTTP/1.1\r\n\
+    host: 127.0.0.1:8080\r\n\
+    x-amz-date: 20120525T002453Z\r\n\
+    x-amz-glacier-version: 2012-06-01\r\n\
+    Authorization: AWS4-HMAC-SHA256 Credential=AKIDEXAMPLE/20120525/us-east-1/glacier/aws4_request, SignedHeaders=host;x-amz-date;x-amz-glacier-version, Signature=213628ba73add545fd13182f52aa66ffd25a20016641bf4688345b70f387b804\r\n\r\n";
+
 pub const DELETE_VAULT: &str = "DELETE /111122223333/vaults/v HTTP/1.1\r\n\
     host: 127.0.0.1:8080\r\n\
     x-amz-date: 20120525T002453Z\r\n\
     x-amz-glacier-version: 2012-06-01\r\n\
     Authorization: AWS4-HMAC-SHA256 Credential=AKIDEXAMPLE/20120525/us-east-1/glacier/aws4_request, SignedHeaders=host;x-amz-date;x-amz-glacier-version, Signature=f7655bdafce6670185f514f4a650d73be11a34fa9825a87b19f74f53146a5c0b\r\n\r\n";
+
+pub const DELETE: &str = "DELETE /-/vaults/examplevault HTTP/1.1\r\n\
+    host: 127.0.0.1:8080\r\n\
+    x-amz-date: 20120525T002453Z\r\n\
+    x-amz-glacier-version: 2012-06-01\r\n\
+    Authorization: AWS4-HMAC-SHA256 Credential=AKIDEXAMPLE/20120525/us-east-1/glacier/aws4_request, SignedHeaders=host;x-amz-date;x-amz-glacier-version, Signature=58883195f780d38803053129f9d8f9b5550ed15c51af85fca83e54f42dd8adaf\r\n\r\n";
+
+pub const DELETE_NO_SUCH: &str = "DELETE /-/vaults/nosuch HTTP/1.1\r\n\
+    host: 127.0.0.1:8080\r\n\
+    x-amz-date: 20120525T002453Z\r\n\
+    x-amz-glacier-version: 2012-06-01\r\n\
+    Authorization: AWS4-HMAC-SHA256 Credential=AKIDEXAMPLE/20120525/us-east-1/glacier/aws4_request, SignedHeaders=host;x-amz-date;x-amz-glacier-version, Signature=aed31ec01c0003c08447df4f7df6525658a45af4df39d6a843a064ffc2b94cee\r\n\r\n";
+
+pub const DELETE_BY_OTHER: &str = "DELETE /-/vaults/examplevault HTTP/1.1\r\n\
+    host: 127.0.0.1:8080\r\n\
+    x-amz-date: 20120525T002453Z\r\n\
+    x-amz-glacier-version: 2012-06-01\r\n\
+    Authorization: AWS4-HMAC-SHA256 Credential=AKIDOTHER/20120525/us-east-1/glacier/aws4_request, SignedHeaders=host;x-amz-date;x-amz-glacier-version, Signature=6adfa9beff9b1af37c1403997270e43d8afdb09e16da00b052b9cfbd07947a6c\r\n\r\n";
+
+pub const DELETE_OF_FIRST_BY_OTHER: &str = "DELETE /111122223333/vaults/examplevault HTTP/1.1\r\n\
+    host: 127.0.0.1:8080\r\n\
+    x-amz-date: 20120525T002453Z\r\n\
+    x-amz-glacier-version: 2012-06-01\r\n\
+    Authorization: AWS4-HMAC-SHA256 Credential=AKIDOTHER/20120525/us-east-1/glacier/aws4_request, SignedHeaders=host;x-amz-date;x-amz-glacier-version, Signature=0552ac9d265de919dc9cc6051fc8f56ebe0b8d2ae8bf532a07ccd4c9aa6a5cdd\r\n\r\n";
+
+pub const POST_VAULT: &str = "POST /111122223333/vaults/v HTTP/1.1\r\n\
+    host: 127.0.0.1:8080\r\n\
+    x-amz-date: 20120525T002453Z\r\n\
+    x-amz-glacier-version: 2012-06-01\r\n\
+    Authorization: AWS4-HMAC-SHA256 Credential=AKIDEXAMPLE/20120525/us-east-1/glacier/aws4_request, SignedHeaders=host;x-amz-date;x-amz-glacier-version, Signature=bdbe1d546d64d48339060f6353982c6db2ac4212d9201f8625b9c38a51f3466c\r\n\r\n";
 
 pub const PUT_VAULT_ELSEWHERE: &str = "PUT /111122223333/vault/v HTTP/1.1\r\n\
     host: 127.0.0.1:8080\r\n\
@@ -158,6 +194,12 @@ pub const PUT_NO_NAME: &str = "PUT /-/vaults/ HTTP/1.1\r\n\
     x-amz-date: 20120525T002453Z\r\n\
     x-amz-glacier-version: 2012-06-01\r\n\
     Authorization: AWS4-HMAC-SHA256 Credential=AKIDEXAMPLE/20120525/us-east-1/glacier/aws4_request, SignedHeaders=host;x-amz-date;x-amz-glacier-version, Signature=d0ce7216fd4fa9c06a2476f79d466d6925398bc8ee56d4961a8e1fb4b8cc1e02\r\n\r\n";
+
+pub const DELETE_NO_NAME: &str = "DELETE /-/vaults/ HTTP/1.1\r\n\
+    host: 127.0.0.1:8080\r\n\
+    x-amz-date: 20120525T002453Z\r\n\
+    x-amz-glacier-version: 2012-06-01\r\n\
+    Authorization: AWS4-HMAC-SHA256 Credential=AKIDEXAMPLE/20120525/us-east-1/glacier/aws4_request, SignedHeaders=host;x-amz-date;x-amz-glacier-version, Signature=c824577f20294fd84c4c704cbbbf78b5f5c16279f2a8e7294749a2fca2a43616\r\n\r\n";
 
 pub const GET_TWO_DOTS: &str = "GET /111122223333/vaults/.. HTTP/1.1\r\n\
     host: 127.0.0.1:8080\r\n\

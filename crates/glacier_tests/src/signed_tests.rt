@@ -21,12 +21,30 @@ type Dialogue = (
 
 const ON_TIME: &[u64] = &[READING];
 
-const DIALOGUES: [Dialogue; 8] = [
+const DIALOGUES: [Dialogue; 10] = [
     (
         "the same twice makes one vault",
         ON_TIME,
         &[PUT, PUT, GET],
         &[MADE, MADE, DESCRIBED],
+    ),
+    (
+        "a deletion takes the vault, and does nothing where there is none",
+        ON_TIME,
+        &[PUT, DELETE, GET, DELETE, PUT, GET],
+        &[MADE, DELETED, NO_VAULT, DELETED, MADE, DESCRIBED],
+    ),
+    (
+        "a deletion takes no other vault",
+        ON_TIME,
+        &[
+            PUT,
+            DELETE_NO_SUCH,
+            DELETE_BY_OTHER,
+            DELETE_OF_FIRST_BY_OTHER,
+            GET,
+        ],
+        &[MADE, DELETED, DELETED, OTHER_ACCOUNT, DESCRIBED],
     ),
     ("900 s off", &[READING + 900], &[PUT], &[MADE_LATER]),
     (
@@ -87,13 +105,14 @@ const DIALOGUES: [Dialogue; 8] = [
         "the order of refusals",
         ON_TIME,
         &[
-            DELETE_VAULT,
+            POST_VAULT,
             PUT_VAULT_ELSEWHERE,
             PUT_BELOW_VAULT,
             GET_VAULTS,
             GET_OF_11_DIGITS,
             POST_NO_NAME,
             PUT_NO_NAME,
+            DELETE_NO_NAME,
             GET_TWO_DOTS,
             GET_TILDE,
             PUT_BAD_NAME_OF_OTHER,
@@ -109,6 +128,7 @@ const DIALOGUES: [Dialogue; 8] = [
             NO_ROUTE,
             NO_ROUTE,
             NO_ROUTE,
+            BAD_NAME,
             BAD_NAME,
             BAD_NAME,
             BAD_NAME,

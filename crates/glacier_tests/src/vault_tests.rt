@@ -1,14 +1,15 @@
-// What `create` and `find` answer, one call after another.
+// What `create`, `delete` and `find` answer, one call after another.
 ghost use Rattle.glacier_vault.specs.Lawful.{IsLawful};
 
 use glacier_base::{Moment, VaultName};
-use glacier_vault::{AccountState, Change, Event, Refusal, create, find};
+use glacier_vault::{AccountState, Change, Event, Refusal, create, delete, find};
 use std::alloc::Global;
 use std::test::Fail;
 
 #[derive(Clone, Copy, PartialEq)]
 enum Said {
     Created,
+    Deleted,
     Nothing,
     Limit,
     Other,
@@ -18,6 +19,7 @@ fn event_said(change: &Change, name: &VaultName) -> Said {
     match &change.event {
         None => Said::Nothing,
         Some(Event::CreateVault { name: made }) if made == name => Said::Created,
+        Some(Event::DeleteVault { name: gone }) if gone == name => Said::Deleted,
         Some(_) => Said::Other,
     }
 }
@@ -93,6 +95,62 @@ fn vaults_are_created_once(rt: HostRuntime) -> Result<(), Fail> {
     let missing = VaultName::parse(b"nosuch").ok_or("no name")?;
     assert!(rt; is_missing(&state, &missing));
     Ok(())
+}
+
+/// Deletes a vault as a request does that comes at `reading`.
+fn answer_to_deletion(state: &mut AccountState, reading: Moment, name: &VaultName) -> Said
+    requires { IsLawful state.old }
+    ensures { IsLawful state.new }
+{
+    let m = state.last.later(reading);
+    match &delete(state, m, name) {
+        Ok(Ok(change)) => event_said(change, name),
+        _ => Said::Other,
+    }
+}
+
+/// The reading, the name, the answer and the last moment after it.
+type Deletion = (u64, &'static str, Said, u64);
+
+const DELETIONS: [Deletion; 4] = [
+    (800, "photos", Said::Deleted, 800),
+    (900, "photos", Said::Nothing, 800),
+    (900, "nosuch", Said::Nothing, 800),
+    // A clock that went back.
+    (400, "letters", Said::Deleted, 800),
+];
+
+/// Whether the deletion is answered so, leaves this moment and no vault of the name.
+fn is_deleted(state: &mut AccountState, row: &Deletion) -> bool
+    requires { IsLawful state.old }
+    ensures { IsLawful state.new }
+{
+    let (reading, text, answer, last) = *row;
+    match (Moment::new(reading), VaultName::parse(text.as_bytes())) {
+        (Some(reading), Some(name)) => {
+            answer_to_deletion(state, reading, &name) == answer
+                && state.last.seconds() == last
+                && is_missing(state, &name)
+        }
+        _ => false,
+    }
+}
+
+#[test]
+fn vaults_are_deleted_once(rt: HostRuntime) {
+    let mut state = AccountState::new(rt.alloc());
+    for row in &ROWS {
+        assert!(rt; is_answered(&mut state, row), "{} at {}", row.1, row.0);
+    }
+    for deletion in &DELETIONS {
+        assert!(rt;
+            is_deleted(&mut state, deletion),
+            "{} at {}",
+            deletion.1,
+            deletion.0
+        );
+    }
+    assert!(rt; state.vaults.len() == 1);
 }
 
 /// What creating the vault of this number answers.
