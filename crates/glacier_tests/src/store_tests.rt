@@ -222,17 +222,6 @@ fn holds(station: &MemStation, image: &Image) -> bool {
         && station.area(Area::Blobs).is_empty()
 }
 
-fn is_made(alloc: Global) -> Option<bool> {
-    let mut station = MemStation::new(alloc, disk_plan(alloc, &EMPTY)?).ok()?;
-    let made = made(alloc, &mut station);
-    Some(made.is_ok() && holds(&station, &CREATED))
-}
-
-#[test]
-fn a_store_that_was_made_has_a_header_alone(rt: HostRuntime) {
-    assert!(rt; is_made(rt.alloc()) == Some(true));
-}
-
 /// A PUT or else a DELETE of the vault, and its status.
 type Request = (bool, u16);
 
