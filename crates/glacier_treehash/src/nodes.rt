@@ -2,7 +2,7 @@
 ghost use Rattle.std.specs.Prelude.{◌≡◌, ◌-◌, ◌/◌, ◌<◌, ◌≤◌, ◌⊎◌, ◌↔◌, ℕ, List, IsTrue, IsSome, IfSome, length, slice_range};
 ghost use Rattle.std.specs.Int.{div_ceil};
 ghost use Rattle.glacier_treehash.specs.Leaves.{leaves_of};
-ghost use Rattle.glacier_treehash.specs.Nodes.{IsNode};
+ghost use Rattle.glacier_treehash.specs.Nodes.{IsNode, is_node_of, range_root};
 ghost use Rattle.glacier_treehash.specs.Roots.{root_of_digests};
 ghost use Rattle.glacier_treehash.specs.Tree.{tree_hash_of};
 
@@ -17,6 +17,7 @@ const LEAF: u64 = MIB as u64;
 /// end. False for a size of 0.
 pub fn is_node(size: u64, first: u64, end: u64) -> bool
     ensures node { IsTrue result ↔ IsNode size first end }
+    ensures test { result ≡ is_node_of size first end }
     ensures range { IsTrue result → (first < end) × (end ≤ size) }
 {
     if first >= end || end > size || first % LEAF != 0 {
@@ -45,6 +46,7 @@ pub fn range_hash(leaves: &[Digest], size: u64, first: u64, end: u64) -> Option<
     ensures node { IsSome result ↔ IsNode size first end }
     ensures root { IfSome result (λ root.
         root ≡ root_of_digests (slice_range leaves.now (first / MIB) (div_ceil end MIB))) }
+    ensures value { result ≡ range_root leaves.now size first end }
     ensures tree_hash { (bytes : List ℕ) → length bytes ≡ size → leaves.now ≡ leaves_of bytes →
         IfSome result (λ digest. digest ≡ tree_hash_of (slice_range bytes first end)) }
 {
