@@ -1,7 +1,8 @@
 -- What the deletion of a vault does, in words that the row doesn't share.
 use Rattle.std.specs.Prelude.{◌≡◌, ◌≢◌, ◌+◌, ℕ, List, Err, IsOk}
 use Rattle.std.specs.FinMap as map
-use Rattle.glacier_vault.specs.Rows.{state_after, delete_row, found}
+use Rattle.glacier_vault.specs.Deletions.{delete_row}
+use Rattle.glacier_vault.specs.Rows.{state_after, found}
 use Rattle.glacier_vault.specs.declared.refusal.Refusal.TheVariants.{NoVault}
 use Rattle.glacier_vault.specs.declared.state.AccountState.{AccountState}
 

@@ -1,4 +1,4 @@
-use Rattle.glacier_vault.proofs.DeleteLemmas.{deleted_once}
+use Rattle.glacier_vault.proofs.DeletedLemmas.{deleted_once}
 use Rattle.glacier_vault.proofs.laws.deleted_once.Goals as goal
 
 pub returns : goal.returns

@@ -1,4 +1,4 @@
-use Rattle.glacier_vault.proofs.DeleteLemmas.{event_deletes}
+use Rattle.glacier_vault.proofs.DeletedLemmas.{event_deletes}
 use Rattle.glacier_vault.proofs.laws.event_deletes.Goals as goal
 
 pub returns : goal.returns

@@ -1,4 +1,4 @@
--- What the row of a deletion leaves.
+-- What the deletion of a vault does.
 use Rattle.std.specs.Prelude.{◌≡◌, ◌≢◌, ℕ, ◌+◌, Bool, true, false, cond, List, Option, Some, None, Ok, IsOk, is_some}
 use Rattle.std.specs.Cmp.{eq_by_cmp_equiv}
 use Rattle.std.specs.Cmp.Lexicographic.{nat_list_cmp_total, slice_cmp}
@@ -7,21 +7,19 @@ use Rattle.std.specs.Ordering.{nat_cmp, eq_by_cmp}
 use Rattle.std.proofs.Common.{◌∙◌, ap, refl, sym, subst}
 use Rattle.glacier_base.proofs.Finite.{bytes_cmp-IsAntisymmetric}
 use Rattle.glacier_base.proofs.Sorted.{tied}
-use Rattle.glacier_vault.proofs.RowLemmas.{found_or, event_of}
+use Rattle.glacier_vault.proofs.CreatedLemmas.{found_or, event_of}
+use Rattle.glacier_vault.proofs.DeletionLemmas.{by_refusal, by_vault}
 use Rattle.glacier_vault.specs.Deleted.{Deletes, after_delete}
-use Rattle.glacier_vault.specs.Rows.{Row, answer, state_after, delete_row, no_change, changed}
-use Rattle.glacier_vault.specs.declared.event.Change.{Change}
+use Rattle.glacier_vault.specs.Rows.{answer, state_after, no_change, changed_freeing, with_vaults}
+use Rattle.glacier_vault.specs.Deletions.{deletion_refusal, delete_row}
 use Rattle.glacier_vault.specs.declared.event.Event.TheVariants.{DeleteVault}
+use Rattle.glacier_vault.specs.declared.refusal.Refusal.{Refusal}
 use Rattle.glacier_vault.specs.declared.state.AccountState.{AccountState}
 use Rattle.glacier_vault.specs.declared.state.VaultState.{VaultState}
 
 module _ (a : AccountState) (m : ℕ) (name : List ℕ) where
   abbrev without_vault : AccountState
-  without_vault = record a { last = m; vaults = map.remove a.vaults name }
-
-  -- the row, by what is there
-  abbrev row_of : Option VaultState → Row Change
-  row_of r = cond (is_some r) (Ok (without_vault, changed (DeleteVault name))) (Ok (a, no_change))
+  without_vault = with_vaults a m (map.remove a.vaults name)
 
   no_vault : map.get without_vault.vaults name ≡ None
   no_vault = map.get-remove nat_list_cmp_total a.vaults name name ∙ ap (λ b. cond b None (map.get a.vaults name)) ((eq_by_cmp_equiv nat_list_cmp_total).refl name)
@@ -58,20 +56,28 @@ module _ (a : AccountState) (m : ℕ) (name : List ℕ) where
     counter = refl;
   }
 
-  pub event_deletes : answer (delete_row a m name) ≡ Ok (changed (DeleteVault name)) → Deletes a (after_delete a m name) m name
-  event_deletes = at (map.get a.vaults name) refl
+  pub event_deletes : (freed : List ℕ) → answer (delete_row a m name) ≡ Ok (changed_freeing (DeleteVault name) freed) → Deletes a (after_delete a m name) m name
+  event_deletes freed = at (map.get a.vaults name) refl
     where
-      at : (r : Option VaultState) → map.get a.vaults name ≡ r → answer (row_of r) ≡ Ok (changed (DeleteVault name)) → Deletes a (state_after a (row_of r)) m name
-      at (Some v) e h = deletes v e
+      by : (v : VaultState) → map.get a.vaults name ≡ Some v → (r : Option Refusal) → answer (by_refusal a m name v r) ≡ Ok (changed_freeing (DeleteVault name) freed) → Deletes a (state_after a (by_refusal a m name v r)) m name
+      by v e None h = deletes v e
+      by v e (Some refusal) h = let none : None ≡ Some (DeleteVault name) = ap event_of h in cc
+
+      at : (r : Option VaultState) → map.get a.vaults name ≡ r → answer (by_vault a m name r) ≡ Ok (changed_freeing (DeleteVault name) freed) → Deletes a (state_after a (by_vault a m name r)) m name
+      at (Some v) e h = by v e (deletion_refusal v) h
       at None e h = let none : None ≡ Some (DeleteVault name) = ap event_of h in cc
 
   -- a vault that isn't there isn't deleted
   away : (b : AccountState) (again : ℕ) → map.get b.vaults name ≡ None → delete_row b again name ≡ Ok (b, no_change)
-  away b again e = ap (λ r. cond (is_some r) (Ok (record b { last = again; vaults = map.remove b.vaults name }, changed (DeleteVault name))) (Ok (b, no_change))) e
+  away b again e = ap (by_vault b again name) e
 
-  pub deleted_once : (again : ℕ) → delete_row (after_delete a m name) again name ≡ Ok (after_delete a m name, no_change)
+  pub deleted_once : (again : ℕ) → IsOk (delete_row a m name) → delete_row (after_delete a m name) again name ≡ Ok (after_delete a m name, no_change)
   deleted_once again = at (map.get a.vaults name) refl
     where
-      at : (r : Option VaultState) → map.get a.vaults name ≡ r → delete_row (state_after a (row_of r)) again name ≡ Ok (state_after a (row_of r), no_change)
-      at (Some v) e = away without_vault again no_vault
-      at None e = away a again e
+      by : (v : VaultState) (r : Option Refusal) → IsOk (by_refusal a m name v r) → delete_row (state_after a (by_refusal a m name v r)) again name ≡ Ok (state_after a (by_refusal a m name v r), no_change)
+      by v None h = away without_vault again no_vault
+      by v (Some refusal) h = cc
+
+      at : (r : Option VaultState) → map.get a.vaults name ≡ r → IsOk (by_vault a m name r) → delete_row (state_after a (by_vault a m name r)) again name ≡ Ok (state_after a (by_vault a m name r), no_change)
+      at (Some v) e h = by v (deletion_refusal v) h
+      at None e h = away a again e

@@ -1,0 +1,20 @@
+use Rattle.std.proofs.Common.{sym, subst, arith}
+use Rattle.std.proofs.lemmas.Grind.{common_steps}
+use Rattle.glacier_vault.specs.Lawful.{IsLawful}
+use Rattle.glacier_vault.proofs.WithoutArchive.{room_within, used-without_archive, uploads-without_archive, jobs-without_archive, lawful-deletion}
+use Rattle.glacier_vault.proofs.deletion.delete_archive.Goals as goal
+
+pub overflow_sub-state : goal.overflow_sub-state
+overflow_sub-state c = omega (arith, c.in_ok-freed.ensures.room, room_within c.args.state.now c.args.m c.requires.lawful c.args.name.now c.args.archive c.in-Some.vault.now (sym c.in-Some.ensures.value) c.requires.live)
+
+pub returns-clause-state : goal.returns-clause-state
+returns-clause-state c =
+    let there = sym c.in-Some.ensures.value in
+    let used = used-without_archive c.args.state.now c.args.m c.requires.lawful c.args.name.now c.args.archive c.in-Some.vault.now there c.requires.live in
+    let uploads = uploads-without_archive c.args.state.now c.args.m c.requires.lawful c.args.name.now c.args.archive c.in-Some.vault.now there c.requires.live in
+    let jobs = jobs-without_archive c.args.state.now c.args.m c.requires.lawful c.args.name.now c.args.archive c.in-Some.vault.now there c.requires.live in
+    grind (arith, common_steps)
+
+pub returns-clause-lawful : goal.returns-clause-lawful
+returns-clause-lawful c = subst IsLawful (sym (returns-clause-state c))
+    (lawful-deletion c.args.state.now c.args.m c.requires.lawful c.args.name.now c.args.archive c.in-Some.vault.now (sym c.in-Some.ensures.value) c.requires.live c.requires.time)
