@@ -8,3 +8,4 @@ pub mod PathLemmas
 pub mod RefusalLemmas
 pub mod RequestLemmas
 pub mod RouteLemmas
+pub mod RowSteps

@@ -8,7 +8,7 @@ use Rattle.glacier_base.specs.Digests.{digest_of}
 use Rattle.glacier_http.specs.Fields.{values_of}
 use Rattle.glacier_http.specs.View.{HeadText, HasNames}
 use Rattle.glacier_machine.specs.ContentHash.{hash_name, named_hashes, need_refusal, digest_refusal, hash_refusal, length_refusal, mismatch, content_refusal}
-use Rattle.glacier_machine.specs.Refusals.{HasAsciiText}
+use Rattle.glacier_machine.specs.Messages.{HasAsciiText}
 use Rattle.glacier_machine.specs.Requests.{account_refusal, token_refusal, version_refusal, first_of_two, fields_refusal, body_refusal, request_refusal, unless, action_of}
 use Rattle.glacier_machine.specs.Routes.{route_of}
 use Rattle.glacier_machine.specs.SignedRequests.{fault_refusal, signer_of, on_account, routed_request, verified_request, needed_request, request_with}

@@ -6,6 +6,7 @@ use Rattle.std.specs.Ordering.{nat_cmp}
 use Rattle.glacier_http.specs.declared.reply.Reply.{Reply}
 use Rattle.glacier_http.specs.Messages.{Message, good, bad}
 use Rattle.glacier_http.specs.View.{text_of}
+use Rattle.glacier_sigv4.specs.Rings.{quota_at}
 use Rattle.glacier_vault.specs.declared.event.Event.{Event}
 use Rattle.glacier_vault.specs.declared.refusal.Refusal.{Refusal}
 use Rattle.glacier_vault.specs.declared.rules.Rules.{Rules}
@@ -82,7 +83,12 @@ action_outcome rules before request reading = outcome_at rules (moment_of before
 
 -- what holds for the requests of an account
 abbrev pub rules_of : Config → List ℕ → Rules
-rules_of config account = record { region = config.region; account = account; delays = config.delays }
+rules_of config account = record {
+  region = config.region;
+  account = account;
+  quota = quota_at config.ring account;
+  delays = config.delays;
+}
 
 -- the outcome of a message with a good head
 abbrev pub request_outcome : Config → Accounts → Result Request Refusal → ℕ → Outcome

@@ -25,6 +25,7 @@ impl Config {
         Rules {
             region: self.region,
             account,
+            quota: self.ring.quota(account),
             delays: self.delays,
         }
     }

@@ -7,6 +7,7 @@ mod bodies;
 mod config;
 mod content_hash;
 pub mod laws;
+mod messages;
 mod objects;
 mod path;
 mod refusals;

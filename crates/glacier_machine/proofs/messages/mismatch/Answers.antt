@@ -3,7 +3,7 @@ use Rattle.std.specs.Prelude.{codes}
 use Rattle.std.proofs.lemmas.Result.{IfOk-weaker}
 use Rattle.hex.specs.Hex.{encode_lower}
 use Rattle.glacier_machine.proofs.AsciiTexts.{hex_is_ascii}
-use Rattle.glacier_machine.proofs.refusals.mismatch.Goals as goal
+use Rattle.glacier_machine.proofs.messages.mismatch.Goals as goal
 
 pub ascii_text-found-requires : goal.ascii_text-found-requires
 ascii_text-found-requires c = rw c.text-found.ensures.text (hex_is_ascii c.args.found.now)
@@ -14,10 +14,10 @@ ascii_text-said-requires c = rw c.text-said.ensures.text (hex_is_ascii c.args.sa
 pub returns : goal.returns
 returns c =
     IfOk-weaker c.format.result _ _
-    (λ text is. is ∙ formatted (encode_lower c.args.found.now) (encode_lower c.args.said.now))
+    (λ text is. is ∙ formatted c.args.front.now (encode_lower c.args.found.now) (encode_lower c.args.said.now))
     (rw (c.ascii_text-found.ensures, c.text-found.ensures.text, c.ascii_text-said.ensures, c.text-said.ensures.text)
     at c.format.ensures.ok)
   where
-    formatted : (found said : List ℕ) → codes "Content hash is " ++ (found ++ (codes ", not " ++ (said ++ codes ".")))
-        ≡ codes "Content hash is " ++ found ++ codes ", not " ++ said ++ codes "."
-    formatted found said = simp append_assoc
+    formatted : (front found said : List ℕ) → front ++ (found ++ (codes ", not " ++ (said ++ codes ".")))
+        ≡ front ++ found ++ codes ", not " ++ said ++ codes "."
+    formatted front found said = simp append_assoc

@@ -1,5 +1,5 @@
 use Rattle.glacier_machine.proofs.AsciiTexts.{basic_is_ascii}
-use Rattle.glacier_machine.proofs.refusals.skewed.Goals as goal
+use Rattle.glacier_machine.proofs.messages.skewed.Goals as goal
 
 pub ascii_text-theirs-requires : goal.ascii_text-theirs-requires
 ascii_text-theirs-requires c = rw c.basic_text-theirs.ensures (basic_is_ascii c.args.theirs c.seconds.ensures.bound)

@@ -1,0 +1,40 @@
+-- The steps of rows, by how they came out.
+use Rattle.std.specs.Prelude.{◌≡◌, ℕ, Result, Ok, Err, IfOk, OnOk, OnErr}
+use Rattle.std.proofs.Common.{refl, sym, ap, ◌∙◌}
+use Rattle.glacier_http.specs.declared.reply.Reply.{Reply}
+use Rattle.glacier_vault.specs.declared.event.Change.{Change}
+use Rattle.glacier_vault.specs.declared.refusal.Refusal.{Refusal}
+use Rattle.glacier_vault.specs.declared.state.AccountState.{AccountState}
+use Rattle.glacier_vault.specs.Rows.{Row, answer, state_after}
+use Rattle.glacier_machine.specs.declared.action.Answer.{Answer}
+use Rattle.glacier_machine.specs.AccountSteps.{Step, only_replies, by_row, after_change}
+use Rattle.glacier_machine.specs.Replies.{refused}
+
+same_refusal : (one other : Refusal) → (let r : Result Change Refusal = Err one in let s : Result Change Refusal = Err other in r ≡ s) → one ≡ other
+same_refusal one other is = cc
+
+-- a refused row answers its refusal and leaves the account
+pub step_refused : (before : AccountState) (row : Row Change) (reply : Reply) (refusal : Refusal) → answer row ≡ Err refusal
+    → by_row before row reply ≡ only_replies before (refused refusal)
+step_refused before (Ok done) reply refusal is = cc
+step_refused before (Err other) reply refusal is = ap (λ r. only_replies before (refused r)) (same_refusal other refusal is)
+
+pub state_refused : (before : AccountState) (row : Row Change) (refusal : Refusal) → answer row ≡ Err refusal → state_after before row ≡ before
+state_refused before (Ok done) refusal is = cc
+state_refused before (Err other) refusal is = refl
+
+-- what holds at all holds after any result
+pub on_ok_of : {X E P : Type 0} (r : Result X E) → P → OnOk r P
+on_ok_of (Ok x) p = p
+on_ok_of (Err e) p = tt
+
+pub on_err_of : {X E P : Type 0} (r : Result X E) → P → OnErr r P
+on_err_of (Ok x) p = tt
+on_err_of (Err e) p = p
+
+-- a step whose event makes its state
+pub event_of_step : {E : Type 0} (m : ℕ) (before left : AccountState) (step : Step) (r : Result Answer E)
+    → IfOk r (λ given. given ≡ step.answer) → OnOk r (left ≡ step.state) → step.state ≡ after_change m before step.answer.change.event
+    → IfOk r (λ given. left ≡ after_change m before given.change.event)
+event_of_step m before left step (Ok given) is state event = state ∙ event ∙ sym (ap (λ (a : Answer). after_change m before a.change.event) is)
+event_of_step m before left step (Err e) is state event = tt
