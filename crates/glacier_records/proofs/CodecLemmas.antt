@@ -1,9 +1,9 @@
 -- What is read is spelled so, and what is spelled so is read: for each way to make a codec.
-use Rattle.std.proofs.Common.{◌≡◌, inl, inr, ℕ, ◌+◌, ◌*◌, ◌%◌, ◌^◌, ◌<◌, ◌≤◌, Bool, false, cond, List, [], ◌∷◌, ◌++◌, length, get_or, take, drop, Some, None, nat_lt, refl, sym, ap, subst, ◌∙◌, append_assoc, arith}
-use Rattle.std.specs.Int.{Width, w8, w64, byte_len, from_be_bytes, to_be_bytes}
+use Rattle.std.proofs.Common.{◌≡◌, inl, inr, ℕ, ◌+◌, ◌*◌, ◌/◌, ◌%◌, ◌^◌, ◌<◌, ◌≤◌, Bool, false, cond, List, [], ◌∷◌, ◌++◌, length, get_or, take, drop, Some, None, nat_lt, refl, sym, ap, subst, ◌∙◌, append_assoc, arith}
+use Rattle.std.specs.Int.{Width, w8, w16, w32, w64, byte_len, from_be_bytes, to_be_bytes}
 use Rattle.std.proofs.lemmas.Bool.{cases_lt, ltb-false, le-ltb}
 use Rattle.std.proofs.lemmas.List.{take_at, drop_at, take-append-drop, length-append, length-take, get_or-drop, get_or-take, get_or_past}
-use Rattle.std.proofs.lemmas.Nat.{be_bytes_8, from_be_bytes-to_be_bytes_8}
+use Rattle.std.proofs.lemmas.Nat.{be_bytes_4, be_bytes_8, from_be_bytes-to_be_bytes_4, from_be_bytes-to_be_bytes_8}
 use Rattle.glacier_records.specs.Codec.{Codec, ◌>>=◌, exactly, number, counted, such_that, ◌⊗◌}
 use Rattle.glacier_records.proofs.OptionLemmas.{bind_some, some_is, passed, stopped}
 
@@ -54,6 +54,14 @@ pub record IsWide (w : Width) : Type 0 where
   pub again : (n : ℕ) → n < 2 ^ (8 * byte_len w) → from_be_bytes w (to_be_bytes w n) ≡ n
   pub below : (bytes : List ℕ) → IsBytes bytes → from_be_bytes w bytes < 2 ^ (8 * byte_len w)
 
+pub wide32 : IsWide w32
+wide32 = record {
+  len = λ n. refl;
+  back = λ bytes len fits. be_bytes_4 bytes _ len fits refl;
+  again = λ n lt. from_be_bytes-to_be_bytes_4 n lt;
+  below = λ bytes fits. omega (arith, fits 0, fits 1, fits 2, fits 3);
+}
+
 pub wide64 : IsWide w64
 wide64 = record {
   len = λ n. refl;
@@ -73,6 +81,23 @@ wide8 = record {
   back = one_byte;
   again = λ n lt. omega (arith, lt);
   below = λ bytes fits. omega (arith, fits 0);
+}
+
+two_bytes : (bytes : List ℕ) → length bytes ≡ 2 → IsBytes bytes → to_be_bytes w16 (from_be_bytes w16 bytes) ≡ bytes
+two_bytes [] len fits = absurd (omega arith)
+two_bytes (a ∷ []) len fits = absurd (omega arith)
+two_bytes (a ∷ b ∷ []) len fits =
+    let high : (a * 256 + b) / 256 % 256 ≡ a = omega (arith, fits 0, fits 1) in
+    let low : (a * 256 + b) % 256 ≡ b = omega (arith, fits 0, fits 1) in
+    ap (λ (n : ℕ). n ∷ (a * 256 + b) % 256 ∷ []) high ∙ ap (λ (n : ℕ). a ∷ n ∷ []) low
+two_bytes (a ∷ b ∷ c ∷ more) len fits = absurd (omega arith)
+
+pub wide16 : IsWide w16
+wide16 = record {
+  len = λ n. refl;
+  back = two_bytes;
+  again = λ n lt. omega (arith, lt);
+  below = λ bytes fits. omega (arith, fits 0, fits 1);
 }
 
 pub number_sound : (w : Width) → IsWide w → IsSound (number w)

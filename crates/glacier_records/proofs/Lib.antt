@@ -1,5 +1,11 @@
+pub mod ChoiceLemmas
 pub mod CodecLemmas
+pub mod EventLaws
 mod Examples
 pub mod FieldLemmas
+pub mod KeptLaws
+pub mod KindLemmas
+pub mod ManyLemmas
 pub mod OptionLemmas
 pub mod RecordLaws
+pub mod WrittenLemmas

@@ -1,39 +1,38 @@
 -- Which bytes spell which record (docs/rules/records.md).
-use Rattle.std.specs.Prelude.{◌≡◌, ℕ, List, [], ◌∷◌, ◌++◌}
-use Rattle.glacier_vault.specs.declared.event.Event.{Event}
-use Rattle.glacier_vault.specs.declared.event.Event.TheVariants.{Pass, CreateVault, DeleteVault}
+use Rattle.std.specs.Prelude.{◌≡◌, ℕ, List, ◌∷◌, ◌++◌}
+use Rattle.glacier_records.specs.declared.records.Item.{Item}
+use Rattle.glacier_records.specs.declared.records.Item.TheVariants as item
 use Rattle.glacier_records.specs.declared.records.Record.{Record}
 use Rattle.glacier_records.specs.Codec.{Codec, ◌⊗◌}
-use Rattle.glacier_records.specs.Fields.{account_field, moment_field, name_field}
+use Rattle.glacier_records.specs.EventFields.{event_kind, event_fields, EventFits}
+use Rattle.glacier_records.specs.Fields.{account_field, moment_field}
+use Rattle.glacier_records.specs.KeptFields.{kept_kind, kept_fields, KeptFits}
 
--- the first byte of an event's record
-abbrev pub kind_of : Event → ℕ
-kind_of Pass = 1
-kind_of (CreateVault name) = 2
-kind_of (DeleteVault name) = 3
+-- the first byte of a record
+abbrev pub kind_of : Item → ℕ
+kind_of (item.Event event runs) = event_kind event
+kind_of (item.Kept kept) = kept_kind kept
 
--- the bytes of an event's fields
-abbrev pub fields_of : Event → List ℕ
-fields_of Pass = []
-fields_of (CreateVault name) = name_field.spell name
-fields_of (DeleteVault name) = name_field.spell name
+-- the bytes of its fields
+abbrev pub fields_of : Item → List ℕ
+fields_of (item.Event event runs) = event_fields event runs
+fields_of (item.Kept kept) = kept_fields kept
 
--- an event's fields have a spelling
-abbrev pub FieldsFit : Event → Type 0
-FieldsFit Pass = Unit {0}
-FieldsFit (CreateVault name) = name_field.Fits name
-FieldsFit (DeleteVault name) = name_field.Fits name
+-- its fields have a spelling
+abbrev pub FieldsFit : Item → Type 0
+FieldsFit (item.Event event runs) = EventFits event runs
+FieldsFit (item.Kept kept) = KeptFits kept
 
--- whose event it is, and when: what stands behind the kind in each record
+-- whose record it is, and when: what stands behind the kind in each record
 abbrev pub head : Codec (List ℕ × ℕ)
 head = account_field ⊗ moment_field
 
 -- the bytes of a record
 abbrev pub spelling : Record → List ℕ
-spelling r = kind_of r.event ∷ head.spell (r.account, r.moment) ++ fields_of r.event
+spelling r = kind_of r.item ∷ head.spell (r.account, r.moment) ++ fields_of r.item
 
 -- the bytes spell the record
 pub record Spells (bytes : List ℕ) (r : Record) : Type 0 where
   pub head_fits : head.Fits (r.account, r.moment)
-  pub fields_fit : FieldsFit r.event
+  pub fields_fit : FieldsFit r.item
   pub spelled : bytes ≡ spelling r

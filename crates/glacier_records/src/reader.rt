@@ -1,12 +1,10 @@
-// Reading the fields of records from left to right.
+// Reading bytes and numbers from left to right.
 ghost use Rattle.std.specs.Prelude.{◌≡◌, ◌==◌, length, IfOk};
-ghost use Rattle.std.specs.Int.{w8, w64};
+ghost use Rattle.std.specs.Int.{w8, w16, w32, w64};
 ghost use Rattle.glacier_records.specs.Codec.{number, exactly};
-ghost use Rattle.glacier_records.specs.Fields.{account_field, moment_field, name_field};
 ghost use Rattle.glacier_records.specs.Taken.{Takes, lent};
 
 use crate::unread::Unread;
-use glacier_base::{Account, Moment, VaultName};
 use std::marker::Model;
 
 /// Bytes that are read from the front, which contracts see as those that are left.
@@ -31,7 +29,7 @@ impl<'a> Reader<'a> {
     }
 
     /// So many bytes.
-    fn bytes(&mut self, count: usize) -> Result<&'a [u8], Unread>
+    pub(crate) fn bytes(&mut self, count: usize) -> Result<&'a [u8], Unread>
         ensures taken { Takes ((exactly count).read self.old) (lent result) self.new }
         ensures length { IfOk result (λ bytes. length bytes.now ≡ count) }
     {
@@ -50,48 +48,30 @@ impl<'a> Reader<'a> {
         Ok(front[0])
     }
 
+    /// A number of two bytes, its highest byte first.
+    pub(crate) fn u16(&mut self) -> Result<u16, Unread>
+        ensures { Takes ((number w16).read self.old) result self.new }
+    {
+        let front = self.bytes(2)?;
+        Ok(u16::from_be_bytes([front[0], front[1]]))
+    }
+
+    /// A number of four bytes, its highest byte first.
+    pub(crate) fn u32(&mut self) -> Result<u32, Unread>
+        ensures { Takes ((number w32).read self.old) result self.new }
+    {
+        let front = self.bytes(4)?;
+        Ok(u32::from_be_bytes([front[0], front[1], front[2], front[3]]))
+    }
+
     /// A number of eight bytes, its highest byte first.
-    fn u64(&mut self) -> Result<u64, Unread>
+    pub(crate) fn u64(&mut self) -> Result<u64, Unread>
         ensures { Takes ((number w64).read self.old) result self.new }
     {
         let front = self.bytes(8)?;
         Ok(u64::from_be_bytes([
             front[0], front[1], front[2], front[3], front[4], front[5], front[6], front[7],
         ]))
-    }
-
-    /// An account's twelve digits.
-    pub(crate) fn account(&mut self) -> Result<Account, Unread>
-        ensures { Takes (account_field.read self.old) result self.new }
-    {
-        let digits = self.bytes(12)?;
-        match Account::parse(digits) {
-            Some(account) => Ok(account),
-            None => Err(Unread::NoValue),
-        }
-    }
-
-    /// A moment in seconds.
-    pub(crate) fn moment(&mut self) -> Result<Moment, Unread>
-        ensures { Takes (moment_field.read self.old) result self.new }
-    {
-        let seconds = self.u64()?;
-        match Moment::new(seconds) {
-            Some(moment) => Ok(moment),
-            None => Err(Unread::NoValue),
-        }
-    }
-
-    /// A vault's name, behind its length.
-    pub(crate) fn name(&mut self) -> Result<VaultName, Unread>
-        ensures { Takes (name_field.read self.old) result self.new }
-    {
-        let length = self.byte()?;
-        let text = self.bytes(length as usize)?;
-        match VaultName::parse(text) {
-            Some(name) => Ok(name),
-            None => Err(Unread::NoValue),
-        }
     }
 
     /// Whether no bytes are left.

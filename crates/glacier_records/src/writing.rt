@@ -1,87 +1,73 @@
 // Writing records.
-ghost use Rattle.std.specs.Prelude.{◌≡◌, ◌≤◌, ◌++◌, OnOk, IfOk, length};
-ghost use Rattle.glacier_records.specs.Fields.{account_field, moment_field, name_field};
-ghost use Rattle.glacier_records.specs.Spells.{Spells, kind_of, fields_of, FieldsFit};
+ghost use Rattle.std.specs.Prelude.{◌≡◌, ◌++◌, ◌∷◌, OnOk, IfOk};
+ghost use Rattle.glacier_records.specs.Room.{EventHasRoom, KeptHasRoom, HasRoom};
+ghost use Rattle.glacier_records.specs.Spells.{head, Spells};
+ghost use Rattle.glacier_records.specs.declared.records.Item.TheVariants as item;
 
-use crate::records::Record;
-use glacier_base::{Account, Memory, Moment, Text, VaultName};
+use crate::kept::Kept;
+use crate::records::{Item, Record};
+use crate::writing_events::{event_kind, put_event};
+use crate::writing_kept::{kept_kind, put_kept};
+use crate::writing_values::{put_account, put_moment};
+use glacier_base::{Account, List, Memory, Moment, Text};
+use glacier_extents::Run;
 use glacier_vault::Event;
 use std::alloc::Global;
 
-/// The most bytes of a record: its kind, the account, the moment, and the longest name behind its
-/// length.
-pub const LONGEST_RECORD: usize = 277;
-
-fn put_account(text: &mut Text, account: &Account) -> Result<(), Memory>
-    ensures ok { OnOk result (text.new ≡ text.old ++ account_field.spell account.now) }
-    ensures fits { account_field.Fits account.now }
+/// What stands before the fields of a record.
+fn head_of(alloc: Global, kind: u8, account: &Account, moment: Moment) -> Result<Text, Memory>
+    ensures ok { IfOk result (λ text. text ≡ kind ∷ head.spell (account.now, moment)) }
+    ensures fits { IfOk result (λ text. head.Fits (account.now, moment)) }
 {
-    text.extend_from_slice(account.bytes())?;
-    Ok(())
+    let mut text = Text::new(alloc);
+    text.push(kind)?;
+    put_account(&mut text, account)?;
+    put_moment(&mut text, moment)?;
+    Ok(text)
 }
 
-fn put_moment(text: &mut Text, moment: Moment) -> Result<(), Memory>
-    ensures ok { OnOk result (text.new ≡ text.old ++ moment_field.spell moment) }
-    ensures fits { moment_field.Fits moment }
-{
-    text.extend_from_slice(&moment.seconds().to_be_bytes())?;
-    Ok(())
-}
-
-fn put_name(text: &mut Text, name: &VaultName) -> Result<(), Memory>
-    ensures ok { OnOk result (text.new ≡ text.old ++ name_field.spell name.now) }
-    ensures fits { name_field.Fits name.now }
-{
-    let bytes = name.bytes();
-    text.push(bytes.len() as u8)?;
-    text.extend_from_slice(bytes)?;
-    Ok(())
-}
-
-fn put_fields(text: &mut Text, event: &Event) -> Result<(), Memory>
-    ensures ok { OnOk result (text.new ≡ text.old ++ fields_of event.now) }
-    ensures fits { OnOk result (FieldsFit event.now) }
-{
-    match event {
-        Event::Pass => Ok(()),
-        Event::CreateVault { name } => put_name(text, name),
-        Event::DeleteVault { name } => put_name(text, name),
-    }
-}
-
-fn kind_of(event: &Event) -> u8
-    ensures { result ≡ kind_of event.now }
-{
-    match event {
-        Event::Pass => 1,
-        Event::CreateVault { .. } => 2,
-        Event::DeleteVault { .. } => 3,
-    }
-}
-
-/// The bytes of the record of an event of an account at a moment.
+/// The bytes of the record of an event of an account at a moment, with the blocks of its blob.
 pub fn write_event(
     alloc: Global,
     account: &Account,
     moment: Moment,
     event: &Event,
+    runs: &List<Run>,
 ) -> Result<Text, Memory>
-    ensures spelled { IfOk result (λ text. Spells text
-        (record { account = account.now; moment = moment; event = event.now })) }
-    ensures length { IfOk result (λ text. length text ≤ LONGEST_RECORD) }
+    requires { EventHasRoom event.now runs.now }
+    ensures { IfOk result (λ text. Spells text
+        (record { account = account.now; moment = moment; item = item.Event event.now runs.now })) }
 {
-    let mut text = Text::new(alloc);
-    text.push(kind_of(event))?;
-    put_account(&mut text, account)?;
-    put_moment(&mut text, moment)?;
-    put_fields(&mut text, event)?;
+    let mut text = head_of(alloc, event_kind(event), account, moment)?;
+    put_event(&mut text, event, runs)?;
+    Ok(text)
+}
+
+/// The bytes of the record of an item of a snapshot of an account.
+pub fn write_kept(
+    alloc: Global,
+    account: &Account,
+    moment: Moment,
+    kept: &Kept,
+) -> Result<Text, Memory>
+    requires { KeptHasRoom kept.now }
+    ensures { IfOk result (λ text. Spells text
+        (record { account = account.now; moment = moment; item = item.Kept kept.now })) }
+{
+    let mut text = head_of(alloc, kept_kind(kept), account, moment)?;
+    put_kept(&mut text, kept)?;
     Ok(text)
 }
 
 /// The bytes of a record.
 pub fn write_record(alloc: Global, written: &Record) -> Result<Text, Memory>
-    ensures spelled { IfOk result (λ text. Spells text written.now) }
-    ensures length { IfOk result (λ text. length text ≤ LONGEST_RECORD) }
+    requires { HasRoom written.now.item }
+    ensures { IfOk result (λ text. Spells text written.now) }
 {
-    write_event(alloc, &written.account, written.moment, &written.event)
+    match &written.item {
+        Item::Event(event, runs) => {
+            write_event(alloc, &written.account, written.moment, event, runs)
+        }
+        Item::Kept(kept) => write_kept(alloc, &written.account, written.moment, kept),
+    }
 }

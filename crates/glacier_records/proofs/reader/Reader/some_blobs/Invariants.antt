@@ -1,0 +1,8 @@
+use Rattle.std.proofs.Common.{◌≡◌, ◌-◌}
+use Rattle.glacier_records.specs.Codec.{read_many}
+use Rattle.glacier_records.specs.Fields.{blob_field}
+use Rattle.glacier_records.proofs.ManyLemmas.{with_front}
+use Rattle.glacier_records.proofs.reader.Reader.some_blobs.Given as goal
+
+abbrev pub invariant-loop : goal.invariant-loop
+invariant-loop l = with_front l.blobs (read_many blob_field (l.count - l.counter) l.self) ≡ read_many blob_field l.count l.fn.self

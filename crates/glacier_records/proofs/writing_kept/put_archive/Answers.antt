@@ -1,0 +1,12 @@
+use Rattle.glacier_records.proofs.WrittenLemmas.{behind}
+use Rattle.glacier_records.proofs.writing_kept.put_archive.Goals as goal
+
+pub returns-clause-ok : goal.returns-clause-ok
+returns-clause-ok c =
+    behind c.put_blobs.result _ _ c.args.text.now _ _ c.in_ok-put_name.ensures.ok
+    (behind c.put_blobs.result _ _ c.put_name.new.text _ _ c.in_ok-put_number.ensures.ok
+    (behind c.put_blobs.result _ _ c.put_number.new.text _ _ c.in_ok-put_flag.ensures
+    (behind c.put_blobs.result _ _ c.put_flag.new.text _ _ c.in_ok-put_number-2.ensures.ok
+    (behind c.put_blobs.result _ _ c.put_number-2.new.text _ _ c.in_ok-put_description.ensures.ok
+    (behind c.put_blobs.result _ _ c.put_description.new.text _ _ c.in_ok-put_leaves.ensures.ok
+    c.put_blobs.ensures.ok)))))

@@ -1,0 +1,12 @@
+use Rattle.glacier_records.proofs.WrittenLemmas.{behind}
+use Rattle.glacier_records.proofs.writing_kept.put_line.Goals as goal
+
+pub returns-clause-ok : goal.returns-clause-ok
+returns-clause-ok c =
+    behind c.put_digest.result _ _ c.args.text.now _ _ c.in_ok-put_name.ensures.ok
+    (behind c.put_digest.result _ _ c.put_name.new.text _ _ c.in_ok-put_number.ensures.ok
+    (behind c.put_digest.result _ _ c.put_number.new.text _ _ c.in_ok-put_number-2.ensures.ok
+    (behind c.put_digest.result _ _ c.put_number-2.new.text _ _ c.in_ok-put_number-3.ensures.ok
+    (behind c.put_digest.result _ _ c.put_number-3.new.text _ _ c.in_ok-put_moment.ensures.ok
+    (behind c.put_digest.result _ _ c.put_moment.new.text _ _ c.in_ok-put_description.ensures.ok
+    c.put_digest.ensures.ok)))))
