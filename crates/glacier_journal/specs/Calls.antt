@@ -8,6 +8,7 @@ use Rattle.glacier_disk.specs.Told.{Told}
 use Rattle.glacier_journal.specs.declared.fault.JournalFault.{JournalFault}
 use Rattle.glacier_journal.specs.declared.fault.JournalFault.TheVariants.{Disk, NotAJournal, NotEmpty, End}
 use Rattle.glacier_journal.specs.Breaks.{Breaks, BreaksAt, areas, first_full}
+use Rattle.glacier_journal.specs.Listed.{IsNew}
 
 -- the disk stays open, and its count of faults rises by one where the call answers Disk, and else stays
 pub record JournalCall {T : Type 0} (old new : Told) (result : Result T JournalFault) : Type 0 where
@@ -34,9 +35,10 @@ pub record Opens {T : Type 0} (old new : Told) (result : Result T JournalFault) 
   pub not_a_journal : (area : Area) (at : ℕ) → IsErrOf result (NotAJournal area at) → Breaks old.reads area at
 
 -- creation asks that all areas are empty, and where one isn't it names the first and changes nothing, whatever it
--- answers; what it makes is durable
+-- answers; what it makes is a new list, durably
 pub record Creates {T : Type 0} (old new : Told) (result : Result T JournalFault) : Type 0 where
   pub empty : OnOk result (first_full old.reads areas ≡ None)
+  pub made : OnOk result (IsNew new.reads)
   pub durable : OnOk result (Only new.reads new.leaves)
   pub not_empty : (area : Area) (size : ℕ) → IsErrOf result (NotEmpty area size)
       → first_full old.reads areas ≡ Some (area, size)

@@ -5,7 +5,7 @@ ghost use Rattle.glacier_disk.specs.Image.{Only};
 ghost use Rattle.glacier_disk.specs.Moments.{Looks};
 ghost use Rattle.glacier_journal.specs.Breaks.{areas, first_full};
 ghost use Rattle.glacier_journal.specs.Calls.{Creates, JournalCall};
-ghost use Rattle.glacier_journal.specs.Listed.{Listed};
+ghost use Rattle.glacier_journal.specs.Listed.{IsNew, Listed};
 
 use crate::synced::write_synced;
 use crate::{Journal, JournalFault};
@@ -61,6 +61,8 @@ fn write_first<D: Disk>(disk: &mut D) -> Result<Journal, JournalFault>
     requires { (D.told disk.old).opened ≡ true }
     ensures listed { IsTrue D.tells → first_full (D.told disk.old).reads areas ≡ None →
         IfOk result (λ journal. Listed (D.told disk.new).reads journal.area [] journal.length) }
+    ensures made { IsTrue D.tells → first_full (D.told disk.old).reads areas ≡ None →
+        OnOk result (IsNew (D.told disk.new).reads) }
     ensures length { IfOk result (λ journal. journal.length ≡ 17) }
     ensures durable { IsTrue D.tells → OnOk result
         (Only (D.told disk.new).reads (D.told disk.new).leaves) }

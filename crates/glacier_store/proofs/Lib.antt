@@ -3,5 +3,6 @@ pub mod CommitLemmas
 pub mod EventLemmas
 pub mod OpenLemmas
 pub mod PlaceLemmas
+pub mod RecordLengths
 pub mod ReplayedLemmas
 pub mod StandsLemmas

@@ -3,11 +3,10 @@ use Rattle.std.specs.FinMap as map
 use Rattle.std.proofs.Common.{◌≡◌, ℕ, Bool, true, false, cond, List, [], ◌∷◌, ◌++◌, Option, Some, None}
 use Rattle.std.proofs.Common.{refl, sym, ◌∙◌, ap, subst}
 use Rattle.glacier_journal.specs.Listed.{Payloads}
-use Rattle.glacier_machine.specs.Outcomes.{after_account_event}
 use Rattle.glacier_records.specs.declared.records.Record.{Record}
 use Rattle.glacier_records.specs.Spells.{Spells}
 use Rattle.glacier_records.proofs.RecordLaws.{record_again}
-use Rattle.glacier_store.specs.Replayed.{AllSpell, Makes, Adds, BadRecord, fits_in, event_in, replayed}
+use Rattle.glacier_store.specs.Replayed.{AllSpell, Makes, Adds, BadRecord, fits_in, after_record, replayed}
 use Rattle.glacier_store.specs.State.{State}
 
 some_is : {A : Type 0} (x y : A) → Some x ≡ Some y → x ≡ y
@@ -15,14 +14,14 @@ some_is x y e = cc e
 
 -- what records make behind one that fits or doesn't
 abbrev behind : State → Record → List Record → Bool → Option State
-behind state r more fits = cond fits (replayed (after_account_event state (event_in r)) more) None
+behind state r more fits = cond fits (replayed (after_record state r) more) None
 
 -- records after others
 replayed-append : (state : State) (all more : List Record) (mid : State) → replayed state all ≡ Some mid
     → replayed state (all ++ more) ≡ replayed mid more
 replayed-append state [] more mid e = ap (λ (s : State). replayed s more) (some_is state mid e)
 replayed-append state (r ∷ all) more mid e =
-    at (fits_in state r) (replayed-append (after_account_event state (event_in r)) all more mid) e
+    at (fits_in state r) (replayed-append (after_record state r) all more mid) e
   where
     at : (b : Bool) → (behind state r all true ≡ Some mid → behind state r (all ++ more) true ≡ replayed mid more)
         → behind state r all b ≡ Some mid → behind state r (all ++ more) b ≡ replayed mid more
@@ -44,7 +43,7 @@ makes_none = record { all = []; spelled = tt; made = refl }
 -- a record more
 pub makes-push : (payloads : Payloads) (state : State) (payload : List ℕ) (r : Record) → Makes payloads state
     → Spells payload r → fits_in state r ≡ true
-    → Makes (payloads ++ payload ∷ []) (after_account_event state (event_in r))
+    → Makes (payloads ++ payload ∷ []) (after_record state r)
 makes-push payloads state payload r makes spells fits = record {
   all = makes.all ++ r ∷ [];
   spelled = all_spell-push payloads makes.all payload r makes.spelled spells;

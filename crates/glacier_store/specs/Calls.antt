@@ -7,6 +7,7 @@ use Rattle.glacier_disk.specs.Moments.{Looks}
 use Rattle.glacier_disk.specs.Told.{Told}
 use Rattle.glacier_journal.specs.Breaks.{areas, first_full}
 use Rattle.glacier_disk.specs.Touches.{Touches}
+use Rattle.glacier_journal.specs.Listed.{IsNew}
 use Rattle.glacier_journal.specs.declared.journal.Journal.{Journal}
 use Rattle.glacier_store.specs.Changes.{Changes, Stays}
 use Rattle.glacier_store.specs.Stands.{Reads, Refuses, Stands, Kept}
@@ -22,9 +23,11 @@ pub record StoreCall {T : Type 0} (old new : Told) (result : Result T StoreFault
   pub disk : IsErrOf result fault.Disk → HasRisen old.disk_faults new.disk_faults
   pub others : IfErr result (λ why. (why ≡ fault.Disk) ⊎ (new.disk_faults ≡ old.disk_faults))
 
--- a store is made where all areas are empty, and nowhere else: where one isn't, it stays as it is
+-- a store is made where all areas are empty, and nowhere else: where one isn't, it stays as it is; what is made is a new
+-- list in Left and nothing beside it
 pub record Creates (old new : Told) (result : Result Store StoreFault) : Type 0 where
   pub kept : IfOk result (λ store. Kept new store)
+  pub made : OnOk result (IsNew new.reads)
   pub empty : OnOk result (first_full old.reads areas ≡ None)
   pub not_empty : (area : Area) (size : ℕ) → IsErrOf result (fault.NotEmpty area size)
       → first_full old.reads areas ≡ Some (area, size)

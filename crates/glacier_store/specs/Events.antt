@@ -1,10 +1,14 @@
 -- The events of a call, the state after them, and the room that they take.
-use Rattle.std.specs.Prelude.{ℕ, ◌+◌, List, [], ◌∷◌, length}
+use Rattle.std.specs.Prelude.{ℕ, ◌+◌, ◌≤◌, List, [], ◌∷◌, length}
 use Rattle.glacier_machine.specs.declared.action.Action.{Action}
 use Rattle.glacier_machine.specs.AccountSteps.{step_of, pass_event}
 use Rattle.glacier_machine.specs.Outcomes.{AccountEvent, account_in, after_all, events_of, moment_of}
+use Rattle.glacier_records.specs.declared.records.Item.TheVariants as item
 use Rattle.glacier_records.specs.declared.records.Record.{Record}
+use Rattle.glacier_records.specs.EventFields.{event_kind}
+use Rattle.glacier_records.specs.Room.{EventHasRoom}
 use Rattle.glacier_records.specs.Spells.{spelling}
+use Rattle.glacier_vault.specs.declared.event.Event.{Event}
 use Rattle.glacier_vault.specs.declared.rules.Rules.{Rules}
 use Rattle.glacier_store.specs.State.{State}
 
@@ -31,9 +35,13 @@ pass_events account reading state =
 abbrev pub after_pass : List ℕ → ℕ → State → State
 after_pass account reading state = after_all state (pass_events account reading state)
 
+-- an event that can be kept yet: a pass, and the creation and the deletion of a vault
+abbrev pub HasSpelling : Event → Type 0
+HasSpelling event = EventHasRoom event [] × (event_kind event ≤ 3)
+
 -- the record of an event
 abbrev pub record_of : AccountEvent → Record
-record_of happened = record { account = happened.account; moment = happened.moment; event = happened.event }
+record_of happened = record { account = happened.account; moment = happened.moment; item = item.Event happened.event [] }
 
 -- the bytes that events take in the journal
 abbrev pub room_of : List AccountEvent → ℕ

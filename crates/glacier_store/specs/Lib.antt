@@ -2,7 +2,9 @@ pub mod Calls
 pub mod Changes
 pub mod Events
 pub mod Faults
+pub mod PolicyCode
 pub mod Replayed
 pub mod Stands
 pub mod State
 pub mod StateCode
+pub mod VaultCode

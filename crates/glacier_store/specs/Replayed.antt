@@ -4,31 +4,45 @@ use Rattle.std.specs.Prelude.{Option, Some, None, if◌then◌else◌}
 use Rattle.std.specs.FinMap as map
 use Rattle.glacier_journal.specs.Listed.{Payloads, behind}
 use Rattle.glacier_machine.specs.AccountSteps.{fits}
-use Rattle.glacier_machine.specs.Outcomes.{AccountEvent, account_in, after_account_event}
+use Rattle.glacier_machine.specs.Outcomes.{account_in, after_account_event}
+use Rattle.glacier_records.specs.declared.records.Item.{Item}
+use Rattle.glacier_records.specs.declared.records.Item.TheVariants as item
 use Rattle.glacier_records.specs.declared.records.Record.{Record}
 use Rattle.glacier_records.specs.Spells.{Spells}
+use Rattle.glacier_vault.specs.declared.state.AccountState.{AccountState}
 use Rattle.glacier_store.specs.State.{State}
 
--- the event that a record tells
-abbrev pub event_in : Record → AccountEvent
-event_in r = record { account = r.account; moment = r.moment; event = r.event }
+-- whether what a record tells fits the account so far; there are no snapshots yet
+abbrev pub fits_item : ℕ → AccountState → Item → Bool
+fits_item moment before (item.Event event runs) = fits moment before event
+fits_item moment before (item.Kept kept) = false
+
+-- the accounts after what a record of an account tells
+abbrev pub after_item : State → List ℕ → ℕ → Item → State
+after_item state account moment (item.Event event runs) =
+    after_account_event state (record { account = account; moment = moment; event = event })
+after_item state account moment (item.Kept kept) = state
 
 -- whether a record fits the accounts so far
 abbrev pub fits_in : State → Record → Bool
-fits_in state r = fits r.moment (account_in state r.account) r.event
+fits_in state r = fits_item r.moment (account_in state r.account) r.item
 
--- a payload adds its event to the state: it spells a record that fits
+-- the accounts after it
+abbrev pub after_record : State → Record → State
+after_record state r = after_item state r.account r.moment r.item
+
+-- a payload adds what it tells to the state: it spells a record that fits
 pub record Adds (payload : List ℕ) (before after : State) : Type 0 where
   pub this : Record
   pub spells : Spells payload this
   pub fits : fits_in before this ≡ true
-  pub after_is : after ≡ after_account_event before (event_in this)
+  pub after_is : after ≡ after_record before this
 
 -- what records in order make of the accounts, if each fits
 abbrev pub replayed : State → List Record → Option State
 replayed state [] = Some state
 replayed state (r ∷ more) =
-    if fits_in state r then replayed (after_account_event state (event_in r)) more else None
+    if fits_in state r then replayed (after_record state r) more else None
 
 -- each payload spells the record in its place
 abbrev pub AllSpell : Payloads → List Record → Type 0

@@ -3,6 +3,7 @@ ghost use Rattle.std.specs.Prelude.{◌≡◌, ◌≤◌, ◌||◌, IfOk, IfSome
 ghost use Rattle.std.specs.Option.{is_some};
 ghost use Rattle.glacier_machine.specs.AccountSteps.{fits, step_of};
 ghost use Rattle.glacier_machine.specs.Outcomes.{account_in, after_all, events_of};
+ghost use Rattle.glacier_store.specs.Events.{HasSpelling};
 
 use crate::accounts::Accounts;
 use glacier_base::{Memory, Moment};
@@ -33,6 +34,7 @@ pub(crate) fn change(
         after_all accounts.old (events_of rules.now.account m answer.change.event)) }
     ensures fits { IfOk result (λ answer. IfSome answer.change.event
         (λ event. IsTrue (fits m (account_in accounts.old rules.now.account) event))) }
+    ensures spelled { IfOk result (λ answer. IfSome answer.change.event HasSpelling) }
 {
     let known = accounts.contains(&rules.account);
     let mut state = accounts.take(alloc, &rules.account);

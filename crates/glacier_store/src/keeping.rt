@@ -1,14 +1,15 @@
 // Keeping an event in the journal.
-ghost use Rattle.std.specs.Prelude.{◌≡◌, true, IsTrue, IfOk, IfSome};
+ghost use Rattle.std.specs.Prelude.{◌≡◌, [], true, IsTrue, IfOk, IfSome};
 ghost use Rattle.glacier_machine.specs.AccountSteps.{fits};
 ghost use Rattle.glacier_machine.specs.Outcomes.{account_in, after_all, events_of};
 ghost use Rattle.glacier_records.specs.Spells.{Spells};
+ghost use Rattle.glacier_records.specs.declared.records.Item.TheVariants as item;
 ghost use Rattle.glacier_store.specs.Calls.{Commits, Grows, StoreCall};
-ghost use Rattle.glacier_store.specs.Events.{room_of};
+ghost use Rattle.glacier_store.specs.Events.{HasSpelling, room_of};
 ghost use Rattle.glacier_store.specs.State.{State};
 
 use crate::{Store, StoreFault};
-use glacier_base::{Account, Memory, Moment};
+use glacier_base::{Account, List, Memory, Moment};
 use glacier_disk::Disk;
 use glacier_journal::Frame;
 use glacier_machine::Answer;
@@ -18,10 +19,12 @@ use std::alloc::Global;
 
 /// The frame of an event's record. An error is want of memory.
 fn frame_of(alloc: Global, account: &Account, m: Moment, event: &Event) -> Result<Frame, Memory>
+    requires { HasSpelling event.now }
     ensures { IfOk result (λ frame.
-        Spells frame (record { account = account.now; moment = m; event = event.now })) }
+        Spells frame (record { account = account.now; moment = m; item = item.Event event.now [] })) }
 {
-    let text = write_event(alloc, account, m, event)?;
+    let runs = List::new(alloc);
+    let text = write_event(alloc, account, m, event, &runs)?;
     Frame::of(alloc, text.bytes())
 }
 
@@ -35,7 +38,8 @@ pub(crate) fn keep<D: Disk>(
     m: Moment,
     answer: Answer,
 ) -> Result<(Store, Answer), StoreFault>
-    requires { (D.told disk.old).opened ≡ true }
+    requires opened { (D.told disk.old).opened ≡ true }
+    requires spelled { IfSome answer.change.event HasSpelling }
 
     ensures accounts { IfOk result (λ done. done.0.accounts ≡ store.accounts) }
     ensures answer { IfOk result (λ done. done.1 ≡ answer) }

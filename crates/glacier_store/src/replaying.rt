@@ -4,7 +4,7 @@ ghost use Rattle.glacier_journal.specs.Listed.{bytes_of, placed};
 ghost use Rattle.std.specs.FinMap as map;
 ghost use Rattle.glacier_machine.specs.AccountSteps.{fits, after_event};
 ghost use Rattle.glacier_machine.specs.Outcomes.{account_in};
-ghost use Rattle.glacier_store.specs.Replayed.{Makes, BadRecord, Adds, fits_in};
+ghost use Rattle.glacier_store.specs.Replayed.{Makes, BadRecord, Adds, fits_item, after_item, fits_in};
 ghost use Rattle.glacier_records.specs.Spells.{Spells};
 ghost use Rattle.glacier_records.specs.declared.records.Record.{Record};
 
@@ -12,7 +12,7 @@ use crate::accounts::Accounts;
 use glacier_base::{Account, Memory, Moment};
 use glacier_journal::Payload;
 use glacier_machine::replay;
-use glacier_records::read_record;
+use glacier_records::{Item, read_record};
 use glacier_vault::Event;
 use std::alloc::Global;
 
@@ -50,12 +50,31 @@ fn replay_event(
         (after_event m (account_in accounts.old account.now) event.now)) }
 {
     let mut state = accounts.take(alloc, account);
-    let replayed = replay(&mut state, m, event)?;
+    let replayed = replay(alloc, &mut state, m, event)?;
     accounts.put(*account, state)?;
     Ok(replayed.fits)
 }
 
-/// Does the event again that a payload tells, and says whether it is a record that fits. An error
+/// Does again what a record tells, and says whether it fits. An error is want of memory.
+fn replay_item(
+    accounts: &mut Accounts,
+    alloc: Global,
+    account: &Account,
+    m: Moment,
+    item: &Item,
+) -> Result<bool, Memory>
+    ensures fits { IfOk result (λ answer.
+        answer ≡ fits_item m (account_in accounts.old account.now) item.now) }
+    ensures accounts { IfOk result (λ answer. answer ≡ true →
+        accounts.new ≡ after_item accounts.old account.now m item.now) }
+{
+    match item {
+        Item::Event(event, _) => replay_event(accounts, alloc, account, m, event),
+        Item::Kept(_) => Ok(false),
+    }
+}
+
+/// Does again what a payload tells, and says whether it is a record that fits. An error
 /// is want of memory.
 fn replay_payload(accounts: &mut Accounts, alloc: Global, payload: &[u8]) -> Result<bool, Memory>
     ensures replayed { IfOk result (λ fits. fits ≡ true →
@@ -63,14 +82,14 @@ fn replay_payload(accounts: &mut Accounts, alloc: Global, payload: &[u8]) -> Res
     ensures refused { IfOk result (λ fits. fits ≡ false →
         (r : Record) → Spells payload.now r → fits_in accounts.old r ≡ false) }
 {
-    match read_record(payload)? {
+    match read_record(alloc, payload)? {
         None => Ok(false),
-        Some(written) => replay_event(
+        Some(written) => replay_item(
             accounts,
             alloc,
             &written.account,
             written.moment,
-            &written.event,
+            &written.item,
         ),
     }
 }

@@ -7,7 +7,7 @@ use Rattle.glacier_machine.specs.Outcomes.{account_in}
 use Rattle.glacier_machine.specs.declared.action.Answer.{Answer}
 use Rattle.glacier_machine.proofs.Fitting.{step_fits}
 use Rattle.glacier_store.proofs.AccountLemmas.{changed_by}
-use Rattle.glacier_store.proofs.EventLemmas.{Fit}
+use Rattle.glacier_store.proofs.EventLemmas.{Fit, fit_spelled}
 use Rattle.glacier_store.proofs.changing.change.Goals as goal
 
 pub returns-clause-accounts : goal.returns-clause-accounts
@@ -28,3 +28,8 @@ returns-clause-fits c =
     let is = c.in_ok-answer.ensures.answer
     ∙ ap (λ (s : AccountState). (step_of rules m action s).answer) c.take-state.ensures.state in
     subst (λ (a : Answer). Fit m before a.change.event) (sym is) (step_fits rules m action before c.requires)
+
+pub returns-clause-spelled : goal.returns-clause-spelled
+returns-clause-spelled c =
+    fit_spelled c.args.m (account_in c.args.accounts.now c.args.rules.now.account) c.in_ok-answer.answer.change.event
+    (returns-clause-fits c)

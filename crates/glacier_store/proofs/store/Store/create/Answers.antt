@@ -7,6 +7,7 @@ returns-in-Ok-clause-creates g c t =
     record {
       kept = created_keeps (g.D.Disk.told c.create.new.disk) c.in-Ok.journal c.empty.result made.durable
           (c.in-Ok.ensures.listed t) c.empty.ensures;
+      made = made.made;
       empty = made.empty;
       not_empty = λ area size is. absurd (cc is);
       untouched = λ full. absurd (full made.empty);
