@@ -1,12 +1,10 @@
 -- Bytes that are held: what a read puts behind them, and what is handed out of them.
 use borrow.Rule.Slice.PartMut.{put_mid, post_of}
-use Rattle.std.specs.Prelude.{◌≡◌, ◌⊎◌, ℕ, ◌+◌, ◌-◌, ◌<◌, ◌≤◌, List, [], ◌++◌, take, drop, length, Option, Some, None, IfSome, MatchOption}
+use Rattle.std.specs.Prelude.{◌≡◌, ℕ, ◌+◌, ◌-◌, ◌<◌, ◌≤◌, List, [], ◌++◌, take, drop, length, Option, Some, None, IfSome, MatchOption}
 use Rattle.std.specs.Io.KnownBytes.{Appends, Consumes, IsAtEnd, Keeps}
 use Rattle.std.proofs.Common.{sym, ◌∙◌, ap, subst, arith, append_assoc, append-nil, length-append, length-drop}
 use Rattle.std.proofs.Math.Seq.{take-length}
 use Rattle.std.proofs.lemmas.List.{take-append-drop, drop-drop, drop-take, drop_all, drop-append-le, length-take-le}
-use Rattle.glacier_host.specs.declared.course.Course.{Course}
-use Rattle.glacier_host.specs.declared.course.Course.TheVariants.{Between}
 use Rattle.glacier_host.specs.Held.{to_come}
 use Rattle.glacier_host.proofs.ListLemmas.{written, filled_more}
 
@@ -86,12 +84,3 @@ keeps_then_takes None second third bytes kept took = tt
 keeps_then_takes (Some xs) None third bytes kept took = absurd kept
 keeps_then_takes (Some xs) (Some ys) None bytes kept took = absurd took
 keeps_then_takes (Some xs) (Some ys) (Some zs) bytes kept took = sym kept ∙ took
-
--- nothing was taken, and then these bytes were handed out
-pub hands_out : (first second third : Option (List ℕ)) (course : Course) (came : Option ℕ) (count : ℕ) (into : List ℕ)
-    → came ≡ Some count → Keeps first second
-    → MatchOption came (Keeps second third) (λ n. Consumes second third (take n into) × (n ≡ 0 → 0 < length into → IsAtEnd third ⊎ (course ≡ Between)))
-    → Consumes first third (take count into) × (count ≡ 0 → 0 < length into → IsAtEnd third ⊎ (course ≡ Between))
-hands_out first second third course came count into is kept may =
-    let out = subst (λ (c : Option ℕ). MatchOption c (Keeps second third) (λ n. Consumes second third (take n into) × (n ≡ 0 → 0 < length into → IsAtEnd third ⊎ (course ≡ Between)))) is may in
-    (keeps_then_takes first second third (take count into) kept out.0, out.1)

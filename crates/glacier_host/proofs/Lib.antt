@@ -1,2 +1,3 @@
+mod CourseLemmas
 pub mod HeldLemmas
 pub mod ListLemmas

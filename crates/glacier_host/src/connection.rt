@@ -1,8 +1,8 @@
 // One connection of the listener.
-ghost use Rattle.std.specs.Prelude.{◌≡◌, ◌≤◌, length, false, IfOk, IfSome};
+ghost use Rattle.std.specs.Prelude.{◌≡◌, ◌≤◌, length, true, false, IfOk, IfSome};
 ghost use Rattle.std.specs.Io.KnownBytes.{Keeps};
 ghost use Rattle.glacier_host.specs.declared.course.Course.TheVariants.{Between};
-ghost use Rattle.glacier_host.specs.Courses.{after};
+ghost use Rattle.glacier_host.specs.Courses.{after, IsBegun};
 ghost use Rattle.glacier_host.specs.Held.{ReadsNow};
 ghost use Rattle.glacier_host.specs.Turns.{coming};
 
@@ -102,6 +102,7 @@ impl<S: Read + OpenStream + AsRawFd + Drop> Connection<S> {
     pub fn begins(&mut self, room: &mut HeadRoom) -> bool
         ensures stream { self.new.stream ≡ self.old.stream }
         ensures held { self.new.held ≡ self.old.held }
+        ensures begun { result ≡ true → IsBegun self.old.held self.new.course }
         ensures none { result ≡ false → self.old.course ≡ Between → self.new.course ≡ Between }
     {
         if self.held.is_empty() && !self.is_ended {
@@ -241,6 +242,7 @@ impl<S: Read + OpenStream + AsRawFd + Drop> Connection<S> {
         ensures bound { IfOk result (λ came. IfSome came (λ count. count ≤ length into.old)) }
         ensures bytes { ReadsNow (coming S.remaining self.old) (coming S.remaining self.new)
             result into.new }
+        ensures course { self.new.course ≡ self.old.course }
     {
         if self.held.is_empty() {
             return receive_now(&mut self.stream, into);

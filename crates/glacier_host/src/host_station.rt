@@ -4,7 +4,7 @@ ghost use Rattle.std.specs.Io.KnownBytes.{Appends};
 ghost use Rattle.std.specs.Option.{option_and_then};
 ghost use Rattle.glacier_base.specs.ByteStreams.{AppendsPart};
 ghost use Rattle.glacier_disk.specs.Calls.{ReceiveCall, SendCall};
-ghost use Rattle.glacier_host.specs.Turns.{coming, course_of_turn, sent_on, HandsOut};
+ghost use Rattle.glacier_host.specs.Turns.{place_of_turn, sent_on, HandsOut};
 
 use crate::network::Network;
 use crate::{HostStation, turn};
@@ -67,9 +67,8 @@ where
     fn receive(&mut self, into: &mut [u8]) -> Result<usize, Failed>
         requires { is_some self.old.turn ≡ true }
         ensures within { IfOk result (λ n. n ≤ length into.old) }
-        ensures bytes { HandsOut (option_and_then (coming R.Stream.remaining) self.old.turn)
-            (option_and_then (coming R.Stream.remaining) self.new.turn)
-            (course_of_turn self.new.turn) result into.new }
+        ensures bytes { HandsOut (place_of_turn R.Stream.remaining self.old.turn)
+            (place_of_turn R.Stream.remaining self.new.turn) result into.new }
         ensures call { ReceiveCall (⟦<HostStation<R> as Disk>⟧.told self.old)
             (⟦<HostStation<R> as Disk>⟧.told self.new) result }
     {

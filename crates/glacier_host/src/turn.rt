@@ -1,9 +1,9 @@
 // The connection that is handed out: what is received and sent on it.
-ghost use Rattle.std.specs.Prelude.{◌≡◌, ◌≤◌, length, IfOk, IfSome, Ok, true, OnOk, OnErr};
+ghost use Rattle.std.specs.Prelude.{◌≡◌, ◌<◌, ◌≤◌, length, IfOk, IfSome, Ok, true, OnOk, OnErr};
 ghost use Rattle.std.specs.Io.KnownBytes.{Appends, Keeps, WriteAppends};
 ghost use Rattle.glacier_base.specs.ByteStreams.{AppendsPart};
 ghost use Rattle.glacier_host.specs.declared.course.Course.TheVariants.{Between};
-ghost use Rattle.glacier_host.specs.Turns.{coming, HandsOut, MayHandOut};
+ghost use Rattle.glacier_host.specs.Turns.{coming, place, HandsOut, MayHandOut};
 
 use crate::connection::{Connection, MOST_SILENCE};
 use crate::course::Course;
@@ -23,6 +23,7 @@ fn wait_inside<R: Net + Clock>(
 ) -> Result<(), Failed>
     ensures stream { connection.new.stream ≡ connection.old.stream }
     ensures held { connection.new.held ≡ connection.old.held }
+    ensures course { connection.new.course ≡ connection.old.course }
 {
     let now = network.read_clock(rt);
     let mut pace = match connection.pace {
@@ -60,9 +61,10 @@ fn take_part<R: Net + Clock>(
     connection: &mut Connection<R::Stream>,
     into: &mut [u8],
 ) -> Result<Option<usize>, Failed>
+    requires { 0 < length into.old }
     ensures bound { IfOk result (λ came. IfSome came (λ count. count ≤ length into.old)) }
-    ensures bytes { MayHandOut (coming R.Stream.remaining connection.old)
-        (coming R.Stream.remaining connection.new) connection.new.course result into.new }
+    ensures bytes { MayHandOut (place R.Stream.remaining connection.old)
+        (place R.Stream.remaining connection.new) result into.new }
 {
     if connection.held.is_empty() && !connection.watch.is_readable {
         return match wait_inside(rt, network, connection) {
@@ -133,9 +135,10 @@ fn receive_once<R: Net + Clock>(
     connection: &mut Connection<R::Stream>,
     into: &mut [u8],
 ) -> Result<Option<usize>, Failed>
+    requires { 0 < length into.old }
     ensures bound { IfOk result (λ came. IfSome came (λ count. count ≤ length into.old)) }
-    ensures bytes { MayHandOut (coming R.Stream.remaining connection.old)
-        (coming R.Stream.remaining connection.new) connection.new.course result into.new }
+    ensures bytes { MayHandOut (place R.Stream.remaining connection.old)
+        (place R.Stream.remaining connection.new) result into.new }
 {
     if let Course::Between = connection.course {
         return match find_next(rt, network, connection) {
@@ -149,7 +152,7 @@ fn receive_once<R: Net + Clock>(
 
 /// Hands out bytes of the connection's input: those of one message at most, and none of the next
 /// before its head is whole.
-#[tactic(auto, using(crate::proofs::HeldLemmas::keeps_twice, crate::proofs::HeldLemmas::hands_out))]
+#[tactic(auto, using(crate::proofs::HeldLemmas::keeps_twice, crate::proofs::CourseLemmas::goes_none, crate::proofs::CourseLemmas::goes_on, crate::proofs::CourseLemmas::hands_out))]
 pub fn receive<R: Net + Clock>(
     rt: &R,
     network: &mut Network<R>,
@@ -157,8 +160,8 @@ pub fn receive<R: Net + Clock>(
     into: &mut [u8],
 ) -> Result<usize, Failed>
     ensures bound { IfOk result (λ count. count ≤ length into.old) }
-    ensures bytes { HandsOut (coming R.Stream.remaining connection.old)
-        (coming R.Stream.remaining connection.new) connection.new.course result into.new }
+    ensures bytes { HandsOut (place R.Stream.remaining connection.old)
+        (place R.Stream.remaining connection.new) result into.new }
 {
     if into.is_empty() {
         return Ok(0);
