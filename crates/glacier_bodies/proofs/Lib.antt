@@ -1,0 +1,10 @@
+pub mod CallLemmas
+pub mod LayoutLemmas
+pub mod BlobLemmas
+pub mod PieceLemmas
+pub mod TakeLemmas
+pub mod KeepLemmas
+pub mod ReadLemmas
+pub mod NameLemmas
+pub mod SoundLemmas
+pub mod ArchiveLemmas

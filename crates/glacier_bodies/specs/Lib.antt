@@ -1,0 +1,6 @@
+pub mod Layouts
+pub mod Blobs
+pub mod Bodies
+pub mod Calls
+pub mod Stands
+pub mod BlobAreas
