@@ -1,0 +1,16 @@
+pub mod Accepted
+pub mod ArchiveLemmas
+pub mod CompletionLemmas
+pub mod CompletionRow
+pub mod CoverLemmas
+pub mod CoversLemmas
+pub mod DrawLemmas
+pub mod FreesNothing
+pub mod MultipartLemmas
+pub mod OpenLemmas
+pub mod PartLemmas
+pub mod PartListLemmas
+pub mod PartRow
+pub mod SameText
+pub mod UploadFrees
+pub mod UploadMaps

@@ -1,0 +1,9 @@
+pub mod Bodies
+pub mod Completion
+pub mod Covers
+pub mod Frees
+pub mod PartLists
+pub mod Parts
+pub mod Single
+pub mod Uploads
+pub mod Whole
