@@ -1,0 +1,10 @@
+pub mod BeginLemmas
+pub mod IsEvent
+pub mod NamingLemmas
+pub mod NotDue
+pub mod PassFrees
+pub mod PassLawful
+pub mod PassLemmas
+pub mod PassTotals
+pub mod PassTwice
+pub mod StrikeLemmas
