@@ -1,0 +1,2 @@
+pub mod DeniedLemmas
+pub mod LockLemmas

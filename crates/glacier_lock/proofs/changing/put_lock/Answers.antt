@@ -1,0 +1,16 @@
+use Rattle.std.proofs.Common.{Some, ◌+◌, sym, subst, arith}
+use Rattle.std.proofs.lemmas.Grind.{common_steps}
+use Rattle.glacier_vault.specs.Lawful.{IsLawful}
+use Rattle.glacier_lock.specs.Locks.{new_lock}
+use Rattle.glacier_lock.proofs.LockLemmas.{in_vault-lock, lawful-with_lock}
+use Rattle.glacier_lock.proofs.changing.put_lock.Goals as goal
+
+pub returns-clause-state : goal.returns-clause-state
+returns-clause-state c =
+    let totals = in_vault-lock c.args.state.now c.args.m c.requires.time c.requires.lawful c.args.vault.now c.in-Some.found.now (sym c.in-Some.ensures.value) (Some (new_lock c.args.state.now.counter c.args.m c.args.text c.args.policy)) (c.args.state.now.counter + 1) in
+    grind (arith, common_steps)
+
+pub returns-clause-lawful : goal.returns-clause-lawful
+returns-clause-lawful c = subst IsLawful (sym (returns-clause-state c))
+    (lawful-with_lock c.args.state.now c.args.m c.requires.time c.requires.lawful c.args.vault.now c.in-Some.found.now (sym c.in-Some.ensures.value)
+    (Some (new_lock c.args.state.now.counter c.args.m c.args.text c.args.policy)) (c.args.state.now.counter + 1) (omega arith) (record { number = omega arith; created = omega arith; policy = c.requires.reads }))
