@@ -1,0 +1,5 @@
+pub mod ArchiveStays
+pub mod CompletedReplays
+pub mod FitLemmas
+pub mod LockedStays
+pub mod Seen
