@@ -1,0 +1,4 @@
+pub mod AsciiTexts
+mod Examples
+pub mod JsonTexts
+pub mod NameLemmas

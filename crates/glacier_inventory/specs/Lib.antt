@@ -1,0 +1,2 @@
+pub mod CsvInventories
+pub mod JsonInventories
