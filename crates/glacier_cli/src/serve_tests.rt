@@ -40,7 +40,7 @@ const MADE_AND_DESCRIBED: &str = "HTTP/1.1 201 Created\r\n\
 /// printed and what is sent. The station's calls are: the folder is opened, four sizes, a header is
 /// written and synced, Lead too, 9 listens, 10 accepts, 11 receives, 12 writes the record, 13
 /// syncs, 14 writes its gate, 15 syncs, 16 sends, 17 receives, 18 accepts.
-const SERVED: [(&[&str], &[u64], &[u64], u8, &str, &str); 14] = [
+const SERVED: [(&[&str], &[u64], &[u64], u8, &str, &str); 15] = [
     (
         &[PUT, GET],
         &[],
@@ -55,6 +55,7 @@ const SERVED: [(&[&str], &[u64], &[u64], u8, &str, &str); 14] = [
     (&[PUT], &[9], &[], 6, "listener fault\n", ""),
     (&[PUT], &[10], &[], 6, "listener fault\n", ""),
     (&[PUT], &[11], &[], 0, "served 1 connections\n", ""),
+    (&[GET, PUT], &[11], &[], 0, "served 2 connections\n", MADE),
     (&[PUT], &[12], &[], 5, "disk fault\n", ""),
     (&[PUT], &[15], &[], 5, "disk fault\n", ""),
     (&[PUT], &[16], &[], 0, "served 1 connections\n", ""),

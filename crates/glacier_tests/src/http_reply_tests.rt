@@ -86,12 +86,13 @@ fn is_in_front(alloc: Global, reply: &Reply, row: &Row, date: Moment) -> Result<
 {
     let fields = room_of(reply.fields.as_slice()).ok_or(Memory)?;
     let room = fields.checked_add(512).ok_or(Memory)?;
+    let untouched = vec![in alloc; b'#'; room]?;
     let mut into = vec![in alloc; b'#'; room]?;
     let end = write_head(reply, row.count, date, row.close, &mut into);
     Ok(
         end == row.head.len()
             && into.starts_with(row.head.as_bytes())
-            && into[end..].iter().all(|byte| *byte == b'#'),
+            && into[end..] == untouched[end..],
     )
 }
 

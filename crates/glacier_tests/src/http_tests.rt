@@ -25,13 +25,13 @@ const CUTS: usize = 450;
 /// Cuts the text at every byte: below `settled` bytes it needs more, and from there it has its
 /// answer.
 fn is_settled(text: &[u8], settled: usize, answer: Said, room: &mut HeadRoom) -> bool {
-    for n in text.len().saturating_sub(CUTS)..=text.len() {
+    for n in text.len().saturating_sub(CUTS)..text.len() {
         let wanted = if n < settled { Said::Need } else { answer };
         if answer_to(&text[..n], room) != wanted {
             return false;
         }
     }
-    true
+    answer_to(text, room) == answer
 }
 
 /// A text, how many of its bytes settle the answer, and the answer.
@@ -136,85 +136,77 @@ fn heads_cut_at_every_byte(rt: HostRuntime) -> Result<(), Fail> {
     Ok(())
 }
 
-/// A request line, so many fields with a value of so many bytes, and the end.
-fn with_fields(alloc: Global, count: u32, width: u32, end: &[u8]) -> Result<Vec<u8>, AllocError> {
-    let mut text = b"GET / HTTP/1.1\r\n".to_vec(alloc)?;
-    for _ in 0..count {
-        text.extend_from_slice(b"a:")?;
-        for _ in 0..width {
-            text.push(b'x')?;
-        }
-        text.push(b'\n')?;
-    }
-    text.extend_from_slice(end)?;
-    Ok(text)
+/// So many fields with a value of so many bytes.
+fn fields(alloc: Global, count: usize, width: usize) -> Result<String, AllocError> {
+    let value = "x".repeat(alloc, width)?;
+    let field = ["a:", value.as_str(), "\n"].concat(alloc)?;
+    field.repeat(alloc, count)
+}
+
+/// A request line, these fields and the end.
+fn with_fields(alloc: Global, fields: &str, end: &str) -> Result<String, AllocError> {
+    ["GET / HTTP/1.1\r\n", fields, end].concat(alloc)
 }
 
 /// The number and width of the fields, the end, how many bytes settle the answer, and the answer.
-const LONG_HEADS: [(u32, u32, &[u8], usize, Said); 7] = [
-    (64, 3, b"\r\n", 402, Said::Head),
-    (65, 3, b"\r\n", 408, Said::Bad(BadHead::TooMany)),
+const LONG_HEADS: [(usize, usize, &str, usize, Said); 7] = [
+    (64, 3, "\r\n", 402, Said::Head),
+    (65, 3, "\r\n", 408, Said::Bad(BadHead::TooMany)),
     (
         64,
         3,
-        b"Content-Length: x\r\n\r\n",
+        "Content-Length: x\r\n\r\n",
         421,
         Said::Bad(BadHead::TooMany),
     ),
     // A head of 16,384 bytes, and one of 16,385.
-    (49, 331, b"\r\n", 16_384, Said::Head),
-    (48, 338, b"\n", 16_384, Said::Bad(BadHead::TooLong)),
+    (49, 331, "\r\n", 16_384, Said::Head),
+    (48, 338, "\n", 16_384, Said::Bad(BadHead::TooLong)),
     // The number of fields counts on a whole head alone.
-    (5455, 0, b"\n", 16_382, Said::Bad(BadHead::TooMany)),
-    (5456, 0, b"", 16_384, Said::Bad(BadHead::TooLong)),
+    (5455, 0, "\n", 16_382, Said::Bad(BadHead::TooMany)),
+    (5456, 0, "", 16_384, Said::Bad(BadHead::TooLong)),
 ];
 
 #[test]
 fn long_heads_cut_at_every_byte(rt: HostRuntime) -> Result<(), Fail> {
     let mut room = HeadRoom::new(rt.alloc()).ok().ok_or("memory")?;
     for (count, width, end, settled, answer) in LONG_HEADS {
-        let text = with_fields(rt.alloc(), count, width, end)?;
+        let fields = fields(rt.alloc(), count, width)?;
+        let text = with_fields(rt.alloc(), fields.as_str(), end)?;
         assert!(rt;
-            is_settled(&text, settled, answer, &mut room),
+            is_settled(text.as_bytes(), settled, answer, &mut room),
             "at {settled} with {count}"
         );
     }
     Ok(())
 }
 
-/// Whether the head of a request with these fields asks to close, and expects an interim line.
-fn flags(
-    alloc: Global,
-    fields: &[u8],
-    room: &mut HeadRoom,
-) -> Result<Option<(bool, bool)>, AllocError> {
-    let mut text = b"GET / HTTP/1.1\r\n".to_vec(alloc)?;
-    text.extend_from_slice(fields)?;
-    text.extend_from_slice(b"\r\n")?;
-    match read_head(&text, room) {
-        HeadStep::Head(spans) => Ok(Some((spans.close, spans.expect))),
-        _ => Ok(None),
+/// Whether the head asks to close, and expects an interim line.
+fn flags(text: &[u8], room: &mut HeadRoom) -> Option<(bool, bool)> {
+    match read_head(text, room) {
+        HeadStep::Head(spans) => Some((spans.close, spans.expect)),
+        _ => None,
     }
 }
 
 /// Fields, whether they ask to close, and whether they expect an interim line.
-const FLAGS: [(&[u8], bool, bool); 11] = [
-    (b"", false, false),
-    (b"connection: CLOSE\r\n", true, false),
-    (b"Connection: keep-alive, Close\r\n", true, false),
-    (b"Connection:\tclose\t,x\r\n", true, false),
+const FLAGS: [(&str, bool, bool); 11] = [
+    ("", false, false),
+    ("connection: CLOSE\r\n", true, false),
+    ("Connection: keep-alive, Close\r\n", true, false),
+    ("Connection:\tclose\t,x\r\n", true, false),
     (
-        b"Connection: keep-alive\r\nConnection: ,close\r\n",
+        "Connection: keep-alive\r\nConnection: ,close\r\n",
         true,
         false,
     ),
-    (b"Connection: closed\r\n", false, false),
-    (b"Connection: close;x\r\n", false, false),
-    (b"Connection: keep-alive close\r\n", false, false),
-    (b"Expect: 100-Continue \r\n", false, true),
-    (b"Expect: 100-continue, x\r\n", false, false),
+    ("Connection: closed\r\n", false, false),
+    ("Connection: close;x\r\n", false, false),
+    ("Connection: keep-alive close\r\n", false, false),
+    ("Expect: 100-Continue \r\n", false, true),
+    ("Expect: 100-continue, x\r\n", false, false),
     (
-        b"Expect: x\r\nexpect:100-continue\r\nConnection: close\r\n",
+        "Expect: x\r\nexpect:100-continue\r\nConnection: close\r\n",
         true,
         true,
     ),
@@ -224,10 +216,10 @@ const FLAGS: [(&[u8], bool, bool); 11] = [
 fn close_and_expect(rt: HostRuntime) -> Result<(), Fail> {
     let mut room = HeadRoom::new(rt.alloc()).ok().ok_or("memory")?;
     for (fields, close, expect) in FLAGS {
+        let text = with_fields(rt.alloc(), fields, "\r\n")?;
         assert!(rt;
-            flags(rt.alloc(), fields, &mut room)? == Some((close, expect)),
-            "{close} {expect} of {}",
-            fields.len()
+            flags(text.as_bytes(), &mut room) == Some((close, expect)),
+            "{close} {expect} of {fields}"
         );
     }
     Ok(())
@@ -249,16 +241,26 @@ fn are_fields_found(head: &Head) -> bool {
         && matches!(head.find(b"date"), Find::None)
 }
 
+fn is_second_shown(head: &Head) -> bool {
+    head.count() > 1 && head.field(1) == (b"X-A".as_slice(), b"1".as_slice())
+}
+
+fn is_read_in_parts(room: &mut HeadRoom) -> bool {
+    match read_head(PARTS, room) {
+        HeadStep::Head(spans) => {
+            let head = spans.view(PARTS, room);
+            (spans.head_length, spans.content_length) == (85, 4)
+                && are_parts_told(&head)
+                && are_fields_found(&head)
+                && is_second_shown(&head)
+        }
+        _ => false,
+    }
+}
+
 #[test]
 fn parts(rt: HostRuntime) -> Result<(), Fail> {
     let mut room = HeadRoom::new(rt.alloc()).ok().ok_or("memory")?;
-    let HeadStep::Head(spans) = read_head(PARTS, &mut room) else {
-        return Err(Fail::from("no head"));
-    };
-    assert!(rt; (spans.head_length, spans.content_length) == (85, 4));
-    let head = spans.view(PARTS, &room);
-    assert!(rt; are_parts_told(&head));
-    assert!(rt; are_fields_found(&head));
-    assert!(rt; head.count() > 1 && head.field(1) == (b"X-A".as_slice(), b"1".as_slice()));
+    assert!(rt; is_read_in_parts(&mut room));
     Ok(())
 }

@@ -25,14 +25,14 @@ fn event_said(change: &Change, name: &VaultName) -> Said {
 }
 
 /// Creates a vault as a request does that comes at `reading`.
-fn answer_to(state: &mut AccountState, reading: Moment, name: &VaultName) -> Said
+fn answer_to(alloc: Global, state: &mut AccountState, reading: Moment, name: &VaultName) -> Said
     requires { IsLawful state.old }
     ensures { IsLawful state.new }
 {
     let m = state.last.later(reading);
-    match create(state, m, name) {
-        Ok(Ok(change)) => event_said(&change, name),
-        Ok(Err(refusal)) => match &refusal {
+    match &create(alloc, state, m, name) {
+        Ok(Ok(change)) => event_said(change, name),
+        Ok(Err(refusal)) => match refusal {
             Refusal::VaultLimit => Said::Limit,
             _ => Said::Other,
         },
@@ -70,14 +70,14 @@ const ROWS: [Row; 5] = [
 ];
 
 /// Whether the row's call is answered so, and leaves this.
-fn is_answered(state: &mut AccountState, row: &Row) -> bool
+fn is_answered(alloc: Global, state: &mut AccountState, row: &Row) -> bool
     requires { IsLawful state.old }
     ensures { IsLawful state.new }
 {
     let (reading, text, answer, last, creation) = *row;
     match (Moment::new(reading), VaultName::parse(text.as_bytes())) {
         (Some(reading), Some(name)) => {
-            answer_to(state, reading, &name) == answer
+            answer_to(alloc, state, reading, &name) == answer
                 && state.last.seconds() == last
                 && is_created_at(state, &name, creation)
         }
@@ -90,7 +90,12 @@ fn vaults_are_created_once(rt: HostRuntime) -> Result<(), Fail> {
     let mut state = AccountState::new(rt.alloc());
     assert!(rt; state.last.seconds() == 0 && state.counter == 0 && state.vaults.is_empty());
     for row in &ROWS {
-        assert!(rt; is_answered(&mut state, row), "{} at {}", row.1, row.0);
+        assert!(rt;
+            is_answered(rt.alloc(), &mut state, row),
+            "{} at {}",
+            row.1,
+            row.0
+        );
     }
     let missing = VaultName::parse(b"nosuch").ok_or("no name")?;
     assert!(rt; is_missing(&state, &missing));
@@ -98,12 +103,17 @@ fn vaults_are_created_once(rt: HostRuntime) -> Result<(), Fail> {
 }
 
 /// Deletes a vault as a request does that comes at `reading`.
-fn answer_to_deletion(state: &mut AccountState, reading: Moment, name: &VaultName) -> Said
+fn answer_to_deletion(
+    alloc: Global,
+    state: &mut AccountState,
+    reading: Moment,
+    name: &VaultName,
+) -> Said
     requires { IsLawful state.old }
     ensures { IsLawful state.new }
 {
     let m = state.last.later(reading);
-    match &delete(state, m, name) {
+    match &delete(alloc, state, m, name) {
         Ok(Ok(change)) => event_said(change, name),
         _ => Said::Other,
     }
@@ -121,14 +131,14 @@ const DELETIONS: [Deletion; 4] = [
 ];
 
 /// Whether the deletion is answered so, leaves this moment and no vault of the name.
-fn is_deleted(state: &mut AccountState, row: &Deletion) -> bool
+fn is_deleted(alloc: Global, state: &mut AccountState, row: &Deletion) -> bool
     requires { IsLawful state.old }
     ensures { IsLawful state.new }
 {
     let (reading, text, answer, last) = *row;
     match (Moment::new(reading), VaultName::parse(text.as_bytes())) {
         (Some(reading), Some(name)) => {
-            answer_to_deletion(state, reading, &name) == answer
+            answer_to_deletion(alloc, state, reading, &name) == answer
                 && state.last.seconds() == last
                 && is_missing(state, &name)
         }
@@ -140,11 +150,16 @@ fn is_deleted(state: &mut AccountState, row: &Deletion) -> bool
 fn vaults_are_deleted_once(rt: HostRuntime) {
     let mut state = AccountState::new(rt.alloc());
     for row in &ROWS {
-        assert!(rt; is_answered(&mut state, row), "{} at {}", row.1, row.0);
+        assert!(rt;
+            is_answered(rt.alloc(), &mut state, row),
+            "{} at {}",
+            row.1,
+            row.0
+        );
     }
     for deletion in &DELETIONS {
         assert!(rt;
-            is_deleted(&mut state, deletion),
+            is_deleted(rt.alloc(), &mut state, deletion),
             "{} at {}",
             deletion.1,
             deletion.0
@@ -161,7 +176,7 @@ fn said_of(alloc: Global, state: &mut AccountState, number: u32) -> Option<Said>
     let text = format!(in alloc; "v{number}").ok()?;
     let name = VaultName::parse(text.as_bytes())?;
     let reading = Moment::new(1_337_905_493)?;
-    Some(answer_to(state, reading, &name))
+    Some(answer_to(alloc, state, reading, &name))
 }
 
 #[test]

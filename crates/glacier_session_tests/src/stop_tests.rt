@@ -1,41 +1,39 @@
 // What a stop may leave after each call of a short run, worked out by hand from the rules of the
 // disk.
-ghost use Rattle.std.specs.Prelude.{◌≡◌, ◌≤◌, OnOk, false, length, true};
+ghost use Rattle.std.specs.Prelude.{◌≡◌, ◌≤◌, false, length, true};
 ghost use Rattle.glacier_disk.specs.Memory.{calls_of};
 
 use crate::disk_tests::plan;
-use glacier_base::{Failed, Text};
+use glacier_base::Text;
 use glacier_disk::{Area, Disk, MemStation, Torn};
 use std::alloc::Global;
 
 /// The first four of nine calls, of which seven change what a stop may leave.
-fn write_twice<D: Disk>(disk: &mut D) -> Result<(), Failed>
+fn write_twice<D: Disk>(disk: &mut D) -> bool
     requires { (D.told disk.old).opened ≡ false }
-    ensures { OnOk result ((D.told disk.new).opened ≡ true) }
+    ensures { result ≡ true → (D.told disk.new).opened ≡ true }
 {
-    disk.open("here")?;
-    disk.write_at(Area::Left, 2, b"XY")?;
-    disk.sync()?;
-    disk.write_at(Area::Left, 6, b"Z")
+    disk.open("here").is_ok()
+        && disk.write_at(Area::Left, 2, b"XY").is_ok()
+        && disk.sync().is_ok()
+        && disk.write_at(Area::Left, 6, b"Z").is_ok()
 }
 
 /// The other five.
-fn cut_and_write<D: Disk>(disk: &mut D) -> Result<(), Failed>
+fn cut_and_write<D: Disk>(disk: &mut D) -> bool
     requires { (D.told disk.old).opened ≡ true }
 {
-    if disk.size(Area::Left)? < 3 {
-        return Err(Failed);
-    }
-    disk.cut(Area::Left, 3)?;
-    disk.write_at(Area::Left, 4, b"q")?;
-    disk.write_at(Area::Blobs, 0, b"p")?;
-    disk.sync()
+    matches!(disk.size(Area::Left), Ok(3..))
+        && disk.cut(Area::Left, 3).is_ok()
+        && disk.write_at(Area::Left, 4, b"q").is_ok()
+        && disk.write_at(Area::Blobs, 0, b"p").is_ok()
+        && disk.sync().is_ok()
 }
 
 fn change<D: Disk>(disk: &mut D) -> bool
     requires { (D.told disk.old).opened ≡ false }
 {
-    write_twice(disk).is_ok() && cut_and_write(disk).is_ok()
+    write_twice(disk) && cut_and_write(disk)
 }
 
 /// A stop after so many calls: Left and Blobs as last synced, as written, and with `#` for what

@@ -3,12 +3,13 @@
 ghost use Rattle.std.specs.Prelude.{◌≡◌, ◌≤◌, false, length, true};
 ghost use Rattle.glacier_disk.specs.Memory.{calls_of};
 
-use crate::plans::disk_plan;
+use crate::calls::{listens, opens};
+use crate::plans::{Plan, mem_plan, plan_of};
 use crate::server_tests::config;
 use crate::signed_replies::{DELETED, MADE_VAULT};
 use crate::signed_requests::{DELETE_VAULT, PUT_VAULT};
-use crate::store_tests::{CREATED, Subject, found, row_subject};
-use glacier_base::{List, Moment, Text};
+use crate::store_tests::{Subject, found, row_subject};
+use glacier_base::Text;
 use glacier_disk::{MemPlan, MemStation, Station, Torn};
 use glacier_server::serve;
 use glacier_store::{Store, StoreFault};
@@ -19,7 +20,7 @@ fn listen_and_serve<S: Station>(alloc: Global, station: &mut S, store: Store) ->
     requires deaf { (S.told station.old).listener.listening ≡ false }
     requires free { (S.told station.old).connected ≡ false }
 {
-    if station.listen("there").is_err() {
+    if !listens(station) {
         return false;
     }
     match config(alloc) {
@@ -35,7 +36,7 @@ fn serve_folder<S: Station>(alloc: Global, station: &mut S) -> bool
     requires deaf { (S.told station.old).listener.listening ≡ false }
     requires free { (S.told station.old).connected ≡ false }
 {
-    if station.open("here").is_err() {
+    if !opens(station) {
         return false;
     }
     match Store::open(alloc, station) {
@@ -47,16 +48,16 @@ fn serve_folder<S: Station>(alloc: Global, station: &mut S) -> bool
 /// Two requests on one connection to a store that was just made, of which the call with this number
 /// fails. The clock stands at Friday, 25 May 2012, 00:24:53 UTC.
 fn session(alloc: Global, fault: u64) -> Option<MemPlan> {
-    let mut input = Text::of(alloc, PUT_VAULT.as_bytes()).ok()?;
-    input.extend_from_slice(DELETE_VAULT.as_bytes()).ok()?;
-    let mut plan = disk_plan(alloc, &CREATED)?;
-    plan.connections = List::new(alloc);
-    plan.connections.push(input).ok()?;
-    plan.moments = List::new(alloc);
-    plan.moments.push(Moment::new(1_337_905_493)?).ok()?;
-    plan.faults = List::new(alloc);
-    plan.faults.push(fault).ok()?;
-    Some(plan)
+    let input = [PUT_VAULT, DELETE_VAULT].concat(alloc).ok()?;
+    let plan = Plan {
+        lead: "\0",
+        left: "glacier journal1\0",
+        inputs: &[input.as_bytes()],
+        pieces: &[],
+        seconds: &[1_337_905_493],
+        faults: &[fault],
+    };
+    mem_plan(alloc, &plan)
 }
 
 /// Whether a stop may leave this when so many bytes had been sent: no account while no byte of the
@@ -76,9 +77,7 @@ fn reopened(
     areas: [Text; 4],
     subject: &Subject,
 ) -> Option<Result<Option<bool>, StoreFault>> {
-    let mut plan = MemPlan::empty(alloc);
-    plan.areas = areas;
-    let mut station = MemStation::new(alloc, plan).ok()?;
+    let mut station = MemStation::new(alloc, plan_of(alloc, areas)).ok()?;
     Some(found(alloc, &mut station, subject))
 }
 
@@ -139,17 +138,20 @@ fn is_gone(alloc: Global, station: &MemStation, subject: &Subject) -> bool {
     is_left(alloc, station, station.calls(), Torn::Old, subject) == Some(Ok(Some(false)))
 }
 
+fn is_sent(alloc: Global, station: &MemStation) -> Option<bool> {
+    let output = [MADE_VAULT, DELETED].concat(alloc).ok()?;
+    Some(station.sent() == output.as_bytes())
+}
+
 /// Whether a session of which no call fails is answered in full, and leaves an account without the
 /// vault.
 fn is_answered(alloc: Global) -> Option<bool> {
     let subject = row_subject()?;
-    let mut output = Text::of(alloc, MADE_VAULT.as_bytes()).ok()?;
-    output.extend_from_slice(DELETED.as_bytes()).ok()?;
     let mut station = MemStation::new(alloc, session(alloc, 999)?).ok()?;
     let is_served = serve_folder(alloc, &mut station);
     let is_whole = all_open(alloc, &station, &subject) == Some(true);
     let is_gone = is_gone(alloc, &station, &subject);
-    Some(is_served && is_whole && is_gone && station.sent() == output.bytes())
+    Some(is_served && is_whole && is_gone && is_sent(alloc, &station) == Some(true))
 }
 
 #[test]

@@ -1,6 +1,7 @@
 // Connections of a station in memory: what is sent on each, to the byte, and how it ends.
 ghost use Rattle.std.specs.Prelude.{◌≡◌, true, false, OnSome};
 
+use crate::calls::{accepts, listens, opens};
 use crate::plans::{Plan, mem_plan};
 use glacier_base::Region;
 use glacier_disk::{MemStation, Station};
@@ -28,11 +29,25 @@ pub fn config(alloc: Global) -> Option<Config> {
 /// Friday, 25 May 2012, 00:24:53 UTC.
 fn plan<'a>(inputs: &'a [&'a [u8]], pieces: &'a [usize], faults: &'a [u64]) -> Plan<'a> {
     Plan {
+        lead: "",
         left: "",
         inputs,
         pieces,
         seconds: &[1_337_905_493],
         faults,
+    }
+}
+
+fn created<S: Station>(alloc: Global, station: &mut S) -> Option<Store>
+    requires { (S.told station.old).opened ≡ true }
+    ensures open { OnSome result ((S.told station.new).opened ≡ true) }
+    ensures listening { (S.told station.new).listener.listening ≡
+        (S.told station.old).listener.listening }
+    ensures connected { (S.told station.new).connected ≡ (S.told station.old).connected }
+{
+    match Store::create(alloc, station) {
+        Ok(store) => Some(store),
+        Err(_) => None,
     }
 }
 
@@ -45,15 +60,12 @@ fn store_at<S: Station>(alloc: Global, station: &mut S) -> Option<Store>
     ensures listening { OnSome result ((S.told station.new).listener.listening ≡ true) }
     ensures free { OnSome result ((S.told station.new).connected ≡ false) }
 {
-    if station.open("here").is_err() {
+    if !opens(station) {
         return None;
     }
-    match Store::create(alloc, station) {
-        Ok(store) => match station.listen("there") {
-            Ok(()) => Some(store),
-            Err(_) => None,
-        },
-        Err(_) => None,
+    match created(alloc, station) {
+        Some(store) => { if listens(station) { Some(store) } else { None } }
+        None => None,
     }
 }
 
@@ -75,10 +87,10 @@ fn accepted_end<S: Station>(alloc: Global, station: &mut S, store: Store) -> Opt
     requires listening { (S.told station.old).listener.listening ≡ true }
     requires free { (S.told station.old).connected ≡ false }
 {
-    match station.accept() {
-        Ok(true) => connection_end(alloc, station, store),
-        Ok(false) => None,
-        Err(_) => None,
+    if accepts(station) {
+        connection_end(alloc, station, store)
+    } else {
+        None
     }
 }
 
@@ -133,14 +145,17 @@ fn served_by(alloc: Global, plan: &Plan) -> Option<Option<u64>> {
     Some(served(alloc, &mut station))
 }
 
-/// Whether an input in pieces of at most so many bytes ends so.
-fn is_ended(alloc: Global, input: &str, piece: usize, end: End) -> bool {
+/// So many bounds of receives.
+pub fn bounds(alloc: Global, bound: usize, count: usize) -> Option<Vec<usize>> {
+    vec![in alloc; bound; count].ok()
+}
+
+/// How an input in pieces of at most so many bytes ends.
+fn end_of(alloc: Global, input: &str, piece: usize) -> Option<End> {
+    let pieces = bounds(alloc, piece, 400)?;
     let inputs = [input.as_bytes(), b"".as_slice()];
-    let pieces = [piece; 400];
-    match held(alloc, &plan(&inputs, &pieces, &[]), b"") {
-        Some((ended, _)) => ended == Some(end),
-        None => false,
-    }
+    let (end, _) = held(alloc, &plan(&inputs, &pieces, &[]), b"")?;
+    end
 }
 
 /// Inputs, and how each ends.
@@ -168,7 +183,7 @@ fn ends(rt: HostRuntime) {
     for (input, end) in ENDS {
         for piece in [1, 7, 400] {
             assert!(rt;
-                is_ended(rt.alloc(), input, piece, end),
+                end_of(rt.alloc(), input, piece) == Some(end),
                 "{piece} of {input}"
             );
         }

@@ -1,10 +1,9 @@
 // Signed requests on a connection of a station in memory: what is sent, to the byte, and how it
 // ends.
 use crate::plans::Plan;
-use crate::server_tests::held;
+use crate::server_tests::{bounds, held};
 use crate::signed_replies::*;
 use crate::signed_requests::*;
-use glacier_base::Text;
 use glacier_server::End;
 use std::alloc::Global;
 
@@ -143,7 +142,15 @@ const DIALOGUES: [Dialogue; 10] = [
 
 /// A text so many times, so many letters `a` behind it, the reply so many times, the last reply and
 /// the end.
-type Long = (u32, &'static str, u32, u32, &'static str, &'static str, End);
+type Long = (
+    usize,
+    &'static str,
+    usize,
+    usize,
+    &'static str,
+    &'static str,
+    End,
+);
 
 const LONG: [Long; 9] = [
     // Bad heads.
@@ -201,51 +208,39 @@ const LONG: [Long; 9] = [
     (4096, "GETS", 0, 0, "", TOO_LONG, End::Refused),
 ];
 
-fn joined(alloc: Global, texts: &[&str]) -> Option<Text> {
-    let mut whole = Text::new(alloc);
-    for text in texts {
-        whole.extend_from_slice(text.as_bytes()).ok()?;
-    }
-    Some(whole)
-}
-
-/// The text so many times, so many letters and another text.
-fn repeated(alloc: Global, count: u32, text: &str, letters: u32, last: &str) -> Option<Text> {
-    let mut whole = Text::new(alloc);
-    for _ in 0..count {
-        whole.extend_from_slice(text.as_bytes()).ok()?;
-    }
-    for _ in 0..letters {
-        whole.extend_from_slice(b"a").ok()?;
-    }
-    whole.extend_from_slice(last.as_bytes()).ok()?;
-    Some(whole)
-}
-
 /// Whether an input in pieces of at most so many bytes is answered with this output, and ends so.
 fn is_answered(
     alloc: Global,
-    input: &Text,
+    input: &str,
     piece: usize,
     seconds: &[u64],
-    output: &Text,
+    output: &str,
     end: End,
-) -> bool {
+) -> Option<bool> {
+    let pieces = bounds(alloc, piece, 2000)?;
     let plan = Plan {
+        lead: "",
         left: "",
-        inputs: &[input.bytes()],
-        pieces: &[piece; 2000],
+        inputs: &[input.as_bytes()],
+        pieces: &pieces,
         seconds,
         faults: &[],
     };
-    held(alloc, &plan, output.bytes()) == Some((Some(end), true))
+    Some(held(alloc, &plan, output.as_bytes()) == Some((Some(end), true)))
 }
 
 fn is_held(alloc: Global, dialogue: &Dialogue, piece: usize) -> Option<bool> {
     let (_, seconds, requests, replies) = *dialogue;
-    let input = joined(alloc, requests)?;
-    let output = joined(alloc, replies)?;
-    Some(is_answered(alloc, &input, piece, seconds, &output, End::Closed))
+    let input = requests.concat(alloc).ok()?;
+    let output = replies.concat(alloc).ok()?;
+    is_answered(
+        alloc,
+        input.as_str(),
+        piece,
+        seconds,
+        output.as_str(),
+        End::Closed,
+    )
 }
 
 #[test]
@@ -261,11 +256,25 @@ fn signed_dialogues(rt: HostRuntime) {
     }
 }
 
+/// The text so many times, and another text behind it.
+fn repeated(alloc: Global, text: &str, count: usize, last: &str) -> Option<String> {
+    let first = text.repeat(alloc, count).ok()?;
+    [first.as_str(), last].concat(alloc).ok()
+}
+
 fn is_long_held(alloc: Global, long: &Long) -> Option<bool> {
     let (count, text, letters, replies, reply, last, end) = *long;
-    let input = repeated(alloc, count, text, letters, "")?;
-    let output = repeated(alloc, replies, reply, 0, last)?;
-    Some(is_answered(alloc, &input, 65_536, &[READING], &output, end))
+    let letters = "a".repeat(alloc, letters).ok()?;
+    let input = repeated(alloc, text, count, letters.as_str())?;
+    let output = repeated(alloc, reply, replies, last)?;
+    is_answered(
+        alloc,
+        input.as_str(),
+        65_536,
+        &[READING],
+        output.as_str(),
+        end,
+    )
 }
 
 #[test]

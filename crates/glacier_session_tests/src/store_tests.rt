@@ -2,7 +2,7 @@
 // finds in an image. The bytes are by hand from docs/rules/journal.md.
 ghost use Rattle.std.specs.Prelude.{◌≡◌, IfOk, OnOk, false, true};
 
-use crate::plans::{Image, disk_plan};
+use crate::plans::{Image, disk_plan, three_areas};
 use glacier_base::{Account, Moment, Region, VaultName};
 use glacier_disk::{Area, Disk, MemPlan, MemStation};
 use glacier_machine::Action;
@@ -46,6 +46,7 @@ pub fn row_subject() -> Option<Subject> {
         rules: Rules {
             region,
             account,
+            quota: 1024,
             delays: [300, 14_400, 28_800],
         },
         vault,
@@ -126,7 +127,7 @@ fn what_is_no_store_is_refused_at_its_first_place(rt: HostRuntime) {
 /// Images, how many bytes `ff` stand behind them in Left, and whether the vault is found in them; None
 /// where its account isn't there either: a store just made, the vault, the same behind another gate
 /// and before bytes that mean nothing, its record behind a closed gate, and a vault that was deleted.
-const FOUND: [(Image, u32, Option<bool>); 6] = [
+const FOUND: [(Image, usize, Option<bool>); 6] = [
     (CREATED, 0, None),
     (WITH_V, 0, Some(true)),
     (WITH_V, 1000, Some(true)),
@@ -151,15 +152,14 @@ const FOUND: [(Image, u32, Option<bool>); 6] = [
     (WITHOUT_V, 0, Some(false)),
 ];
 
-fn tailed(alloc: Global, image: &Image, tail: u32) -> Option<MemPlan> {
-    let mut plan = disk_plan(alloc, image)?;
-    for _ in 0..tail {
-        plan.areas[1].extend_from_slice(b"\xff").ok()?;
-    }
-    Some(plan)
+fn tailed(alloc: Global, image: &Image, tail: usize) -> Option<MemPlan> {
+    let (lead, left, right) = *image;
+    let tail = b"\xff".repeat(alloc, tail).ok()?;
+    let left = [left, tail.as_slice()].concat(alloc).ok()?;
+    three_areas(alloc, lead, left.as_slice(), right)
 }
 
-fn is_found(alloc: Global, image: &Image, tail: u32, there: Option<bool>) -> Option<bool> {
+fn is_found(alloc: Global, image: &Image, tail: usize, there: Option<bool>) -> Option<bool> {
     let subject = row_subject()?;
     let mut station = MemStation::new(alloc, tailed(alloc, image, tail)?).ok()?;
     let found = found(alloc, &mut station, &subject);
@@ -174,6 +174,18 @@ fn a_store_is_opened(rt: HostRuntime) {
             "{tail}"
         );
     }
+}
+
+/// Whether a store that is made on empty areas leaves its header alone.
+fn is_made(alloc: Global) -> Option<bool> {
+    let mut station = MemStation::new(alloc, disk_plan(alloc, &EMPTY)?).ok()?;
+    let made = made(alloc, &mut station);
+    Some(made == Ok(()) && holds(&station, &CREATED))
+}
+
+#[test]
+fn a_store_that_was_made_has_its_header_alone(rt: HostRuntime) {
+    assert!(rt; is_made(rt.alloc()) == Some(true));
 }
 
 /// Areas of which one isn't empty, and the first one with its size.

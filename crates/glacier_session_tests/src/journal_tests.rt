@@ -3,9 +3,9 @@
 ghost use Rattle.std.specs.Prelude.{◌≡◌, ◌≤◌, IfOk, OnOk, false, length, true};
 ghost use Rattle.glacier_disk.specs.Memory.{calls_of};
 
-use crate::plans::{Image, disk_plan};
+use crate::plans::{Image, disk_plan, plan_of};
 use glacier_base::{Failed, List, Text};
-use glacier_disk::{Area, Disk, MemPlan, MemStation, Torn};
+use glacier_disk::{Area, Disk, MemStation, Torn};
 use glacier_journal::{Frame, Journal, JournalFault, Payload};
 use std::alloc::Global;
 
@@ -221,9 +221,7 @@ const STOPS: [(u64, [bool; 4]); 6] = [
 ];
 
 fn reopened(alloc: Global, areas: [Text; 4], listed: &Listed) -> Option<bool> {
-    let mut plan = MemPlan::empty(alloc);
-    plan.areas = areas;
-    let mut station = MemStation::new(alloc, plan).ok()?;
+    let mut station = MemStation::new(alloc, plan_of(alloc, areas)).ok()?;
     opens_with(alloc, &mut station, listed)
 }
 

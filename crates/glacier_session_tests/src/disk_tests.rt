@@ -1,14 +1,16 @@
 // Planned failures, pieces and readings of a station in memory.
-ghost use Rattle.std.specs.Prelude.{◌≡◌, false, true, OnOk};
+ghost use Rattle.std.specs.Prelude.{◌≡◌, false, true};
 
+use crate::calls::{accepts, listens, opens};
 use crate::plans::{Plan, mem_plan};
-use glacier_base::{Failed, List, Moment};
+use glacier_base::Moment;
 use glacier_disk::{Area, MemPlan, MemStation, Station};
 use std::alloc::Global;
 
 /// One input of five bytes, four bytes in the left area, two bounds of receives, and these failures.
 pub fn plan(alloc: Global, faults: &[u64]) -> Option<MemPlan> {
     let plan = Plan {
+        lead: "",
         left: "abcd",
         inputs: &[b"hello"],
         pieces: &[2, 0],
@@ -19,48 +21,41 @@ pub fn plan(alloc: Global, faults: &[u64]) -> Option<MemPlan> {
 }
 
 /// The first four of the calls that can fail, each once.
-fn take_input<S: Station>(station: &mut S, into: &mut [u8]) -> Result<(), Failed>
+fn take_input<S: Station>(station: &mut S, into: &mut [u8]) -> bool
     requires closed { (S.told station.old).opened ≡ false }
     requires deaf { (S.told station.old).listener.listening ≡ false }
     requires free { (S.told station.old).connected ≡ false }
-    ensures open { OnOk result ((S.told station.new).opened ≡ true) }
-    ensures connected { OnOk result ((S.told station.new).connected ≡ true) }
+    ensures open { result ≡ true → (S.told station.new).opened ≡ true }
+    ensures connected { result ≡ true → (S.told station.new).connected ≡ true }
 {
-    station.open("here")?;
-    station.listen("there")?;
-    if !station.accept()? {
-        return Err(Failed);
-    }
-    station.receive(into)?;
-    Ok(())
+    opens(station) && listens(station) && accepts(station) && station.receive(into).is_ok()
 }
 
 /// The other six.
-fn change_and_send<S: Station>(station: &mut S, into: &mut [u8]) -> Result<(), Failed>
+fn change_and_send<S: Station>(station: &mut S, into: &mut [u8]) -> bool
     requires open { (S.told station.old).opened ≡ true }
     requires connected { (S.told station.old).connected ≡ true }
 {
-    station.write_at(Area::Left, 0, b"x")?;
-    station.read(Area::Left, 0, into)?;
-    if station.size(Area::Left)? < 1 {
-        return Err(Failed);
-    }
-    station.cut(Area::Left, 1)?;
-    station.sync()?;
-    station.send(b"y")
+    station.write_at(Area::Left, 0, b"x").is_ok()
+        && station.read(Area::Left, 0, into).is_ok()
+        && matches!(station.size(Area::Left), Ok(1..))
+        && station.cut(Area::Left, 1).is_ok()
+        && station.sync().is_ok()
+        && station.send(b"y").is_ok()
 }
 
-/// Each call that can fail, once, and those that can't.
-fn call_each<S: Station>(station: &mut S, into: &mut [u8]) -> Result<(), Failed>
+/// Each call that can fail, once, and those that can't. Whether none failed.
+fn call_each<S: Station>(station: &mut S, into: &mut [u8]) -> bool
     requires closed { (S.told station.old).opened ≡ false }
     requires deaf { (S.told station.old).listener.listening ≡ false }
     requires free { (S.told station.old).connected ≡ false }
 {
-    take_input(station, into)?;
-    change_and_send(station, into)?;
-    station.hang_up();
-    let _ = station.now();
-    Ok(())
+    if take_input(station, into) && change_and_send(station, into) {
+        station.hang_up();
+        let _ = station.now();
+        return true;
+    }
+    false
 }
 
 /// The call that fails; Left and all bytes sent.
@@ -92,9 +87,9 @@ fn is_left(station: &MemStation, calls: u64, left: &str, sent: &str) -> bool {
 fn fails(alloc: Global, fault: &Fault) -> Option<bool> {
     let (number, left, sent) = *fault;
     let mut station = MemStation::new(alloc, plan(alloc, &[number])?).ok()?;
-    let has_failed = call_each(&mut station, &mut [0; 4]).is_err();
+    let is_done = call_each(&mut station, &mut [0; 4]);
     let calls = number.saturating_add(1).min(10);
-    Some(has_failed == (number < 10) && is_left(&station, calls, left, sent))
+    Some(is_done == (number >= 10) && is_left(&station, calls, left, sent))
 }
 
 #[test]
@@ -104,80 +99,69 @@ fn a_planned_call_fails(rt: HostRuntime) {
     }
 }
 
-/// The sizes of the pieces in which the open connection's input comes, the last of them 0.
-fn pieces<S: Station>(station: &mut S, alloc: Global) -> Result<List<usize>, Failed>
+/// Whether the open connection's input comes in pieces of these sizes.
+fn comes_in<S: Station>(station: &mut S, sizes: &[usize]) -> bool
     requires { (S.told station.old).connected ≡ true }
     ensures { (S.told station.new).listener.listening ≡ (S.told station.old).listener.listening }
 {
-    let mut sizes = List::new(alloc);
     let mut into = [0u8; 3];
-    for _ in 0..100 {
-        let size = station.receive(&mut into)?;
-        if sizes.push(size).is_err() {
-            return Err(Failed);
-        }
-        if size == 0 {
-            return Ok(sizes);
+    for size in sizes {
+        if station.receive(&mut into) != Ok(*size) {
+            return false;
         }
     }
-    Err(Failed)
+    true
 }
 
-/// Accepts the next connection, takes its input and hangs up; None where none comes.
-fn take_next<S: Station>(station: &mut S, alloc: Global) -> Result<Option<List<usize>>, Failed>
+/// Accepts the next connection and hangs up. Whether its input comes in pieces of these sizes.
+fn next_comes_in<S: Station>(station: &mut S, sizes: &[usize]) -> bool
     requires listening { (S.told station.old).listener.listening ≡ true }
     requires free { (S.told station.old).connected ≡ false }
-    ensures listening { OnOk result ((S.told station.new).listener.listening ≡ true) }
-    ensures free { OnOk result ((S.told station.new).connected ≡ false) }
+    ensures listening { result ≡ true → (S.told station.new).listener.listening ≡ true }
+    ensures free { result ≡ true → (S.told station.new).connected ≡ false }
 {
-    if !station.accept()? {
-        return Ok(None);
+    if accepts(station) && comes_in(station, sizes) {
+        station.hang_up();
+        return true;
     }
-    let sizes = pieces(station, alloc)?;
-    station.hang_up();
-    Ok(Some(sizes))
+    false
 }
 
-type Taken = (Option<List<usize>>, Option<List<usize>>);
+/// Whether no connection comes.
+fn none_comes<S: Station>(station: &mut S) -> bool
+    requires listening { (S.told station.old).listener.listening ≡ true }
+    requires free { (S.told station.old).connected ≡ false }
+{
+    station.accept() == Ok(false)
+}
 
-/// Listens and takes two connections, the second of which may not be there.
-fn take_two<S: Station>(station: &mut S, alloc: Global) -> Result<Taken, Failed>
+/// Whether the first input comes in pieces of two, then of one for the bound 0, then all that is
+/// left and fits, and the end; and whether a second one comes in these, or none where there are none.
+fn come_in<S: Station>(station: &mut S, second: Option<&[usize]>) -> bool
     requires deaf { (S.told station.old).listener.listening ≡ false }
     requires free { (S.told station.old).connected ≡ false }
 {
-    station.listen("there")?;
-    let first = take_next(station, alloc)?;
-    let second = take_next(station, alloc)?;
-    Ok((first, second))
+    if !listens(station) || !next_comes_in(station, &[2, 1, 2, 0]) {
+        return false;
+    }
+    match second {
+        Some(sizes) => next_comes_in(station, sizes),
+        None => none_comes(station),
+    }
 }
 
-/// The pieces of the plan's connection, and of this one.
-fn taken(alloc: Global, more: Option<&[u8]>) -> Option<Taken> {
+fn is_taken(alloc: Global, more: Option<&[u8]>, second: Option<&[usize]>) -> Option<bool> {
     let mut station = MemStation::new(alloc, plan(alloc, &[])?).ok()?;
     if let Some(bytes) = more {
         let _ = station.add_connection(bytes);
     }
-    take_two(&mut station, alloc).ok()
-}
-
-/// Whether the first input comes in pieces of two, then of one for the bound 0, then all that is
-/// left and fits; and the second in these pieces, where one comes.
-fn are_pieces(taken: &Option<Taken>, second: &[usize]) -> bool {
-    match taken {
-        Some((Some(first), None)) => {
-            first.as_slice() == [2, 1, 2, 0].as_slice() && second.is_empty()
-        }
-        Some((Some(first), Some(next))) => {
-            first.as_slice() == [2, 1, 2, 0].as_slice() && next.as_slice() == second
-        }
-        _ => false,
-    }
+    Some(come_in(&mut station, second))
 }
 
 #[test]
 fn an_input_comes_in_the_planned_pieces(rt: HostRuntime) {
-    assert!(rt; are_pieces(&taken(rt.alloc(), None), &[]));
-    assert!(rt; are_pieces(&taken(rt.alloc(), Some(b"more")), &[3, 1, 0]));
+    assert!(rt; is_taken(rt.alloc(), None, None) == Some(true));
+    assert!(rt; is_taken(rt.alloc(), Some(b"more"), Some(&[3, 1, 0])) == Some(true));
 }
 
 /// Three readings.

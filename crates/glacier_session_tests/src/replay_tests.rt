@@ -4,6 +4,7 @@ ghost use Rattle.glacier_vault.specs.Lawful.{IsLawful};
 use glacier_base::{Moment, VaultName};
 use glacier_machine::replay;
 use glacier_vault::{AccountState, Event};
+use std::alloc::Global;
 
 #[derive(Clone, Copy)]
 enum Kind {
@@ -40,7 +41,7 @@ fn event_of(kind: Kind, name: VaultName) -> Event {
 }
 
 /// Whether the row's event fits as it says, and leaves this.
-fn is_replayed(state: &mut AccountState, row: &Row) -> bool
+fn is_replayed(alloc: Global, state: &mut AccountState, row: &Row) -> bool
     requires { IsLawful state.old }
     ensures { IsLawful state.new }
 {
@@ -48,7 +49,7 @@ fn is_replayed(state: &mut AccountState, row: &Row) -> bool
     let (Some(m), Some(name)) = (Moment::new(moment), VaultName::parse(text.as_bytes())) else {
         return false;
     };
-    match replay(state, m, &event_of(kind, name)) {
+    match replay(alloc, state, m, &event_of(kind, name)) {
         Ok(replayed) => {
             replayed.fits == fits && state.last.seconds() == last && state.vaults.len() == count
         }
@@ -60,6 +61,11 @@ fn is_replayed(state: &mut AccountState, row: &Row) -> bool
 fn events_are_replayed(rt: HostRuntime) {
     let mut state = AccountState::new(rt.alloc());
     for row in &ROWS {
-        assert!(rt; is_replayed(&mut state, row), "{} at {}", row.2, row.0);
+        assert!(rt;
+            is_replayed(rt.alloc(), &mut state, row),
+            "{} at {}",
+            row.2,
+            row.0
+        );
     }
 }

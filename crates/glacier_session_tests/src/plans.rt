@@ -3,9 +3,10 @@ use glacier_base::{List, Moment, Text};
 use glacier_disk::MemPlan;
 use std::alloc::Global;
 
-/// What a station is to hold, and what is to come to it. The areas but Left are empty.
+/// What a station is to hold, and what is to come to it. Right and Blobs are empty.
 #[derive(Clone, Copy)]
 pub struct Plan<'a> {
+    pub lead: &'a str,
     pub left: &'a str,
     pub inputs: &'a [&'a [u8]],
     pub pieces: &'a [usize],
@@ -30,13 +31,14 @@ fn moments(alloc: Global, seconds: &[u64]) -> Option<List<Moment>> {
 }
 
 pub fn mem_plan(alloc: Global, plan: &Plan) -> Option<MemPlan> {
+    let lead = Text::of(alloc, plan.lead.as_bytes()).ok()?;
     let left = Text::of(alloc, plan.left.as_bytes()).ok()?;
     let connections = texts(alloc, plan.inputs)?;
     let pieces = List::from_vec(plan.pieces.to_vec(alloc).ok()?);
     let moments = moments(alloc, plan.seconds)?;
     let faults = List::from_vec(plan.faults.to_vec(alloc).ok()?);
     Some(MemPlan {
-        areas: [Text::new(alloc), left, Text::new(alloc), Text::new(alloc)],
+        areas: [lead, left, Text::new(alloc), Text::new(alloc)],
         connections,
         pieces,
         moments,
@@ -48,12 +50,26 @@ pub fn mem_plan(alloc: Global, plan: &Plan) -> Option<MemPlan> {
 pub type Image = (&'static [u8], &'static [u8], &'static [u8]);
 
 /// A plan of a disk with these areas, to which nobody comes, and of which no call fails.
-pub fn disk_plan(alloc: Global, image: &Image) -> Option<MemPlan> {
-    let (lead, left, right) = *image;
+pub fn plan_of(alloc: Global, areas: [Text; 4]) -> MemPlan {
+    MemPlan {
+        areas,
+        connections: List::new(alloc),
+        pieces: List::new(alloc),
+        moments: List::new(alloc),
+        faults: List::new(alloc),
+    }
+}
+
+/// The same of Lead, Left and Right.
+pub fn three_areas(alloc: Global, lead: &[u8], left: &[u8], right: &[u8]) -> Option<MemPlan> {
     let lead = Text::of(alloc, lead).ok()?;
     let left = Text::of(alloc, left).ok()?;
     let right = Text::of(alloc, right).ok()?;
-    let mut plan = MemPlan::empty(alloc);
-    plan.areas = [lead, left, right, Text::new(alloc)];
-    Some(plan)
+    Some(plan_of(alloc, [lead, left, right, Text::new(alloc)]))
+}
+
+/// The same of an image.
+pub fn disk_plan(alloc: Global, image: &Image) -> Option<MemPlan> {
+    let (lead, left, right) = *image;
+    three_areas(alloc, lead, left, right)
 }
