@@ -1,17 +1,18 @@
 #!/usr/bin/env python3
-"""Measures `glacier serve` beside nginx in one run, on the loopback network, with wrk as the client.
+"""Measures `glacier serve` beside nginx in one run, on the loopback network.
 
-    bench/beside_nginx.py [SECONDS]
+    bench/beside_nginx.py [ROUNDS]
 
-It needs nginx and wrk, and strace for the last line. Both servers run one process that answers; GLACIER names another program
-than ./glacier. A request for the description of a vault isn't signed: the reply is its refusal, and nginx answers with a fixed
-text of the same length. For each server, on one kept connection and on a connection for each request, it prints requests a
-second and the processor time of the server for a request (user and system, by /proc/PID/stat), over so many seconds (5 where no
-number is given) and the least of three turns. The last line has the system calls of a request on a kept connection.
+It needs nginx, and strace for the last lines. Both servers run one process that answers; GLACIER names another program than
+./glacier, and BEFORE has words to run each server under. A request for the description of a vault isn't signed: the reply is
+its refusal, and nginx answers with a fixed text of the same length. The servers take turns, one after the other in each of so
+many rounds (200 where no number is given), of a hundred requests each: on one kept connection, and on a connection for each
+request. It prints the median over the rounds, and the middle half, of a turn's median wall time and of its processor time of
+the server for a request (user and system), and how glacier's stand to nginx's in the same round. The last lines have the
+system calls of a request, of both.
 """
 
 import os
-import re
 import signal
 import socket
 import subprocess
@@ -19,8 +20,11 @@ import sys
 import tempfile
 import time
 
+from client import middle, turn_of
+
 ROOT = os.path.dirname(os.path.dirname(os.path.abspath(__file__)))
 PROGRAM = os.environ.get("GLACIER", f"{ROOT}/glacier")
+BEFORE = os.environ.get("BEFORE", "").split()
 PATH = "/-/vaults/bench"
 FIELDS = ["-H", "x-amz-glacier-version: 2012-06-01"]
 
@@ -56,7 +60,7 @@ def glacier(folder, port):
     with open(f"{folder}/keys", "w", encoding="ascii") as it:
         it.write("111122223333 AKIDEXAMPLE wJalrXUtnFEMI/K7MDENG+bPxRfiCYEXAMPLEKEY 64\n")
     os.mkdir(f"{folder}/data")
-    words = [PROGRAM, "serve", f"{folder}/data", f"{folder}/keys", "--listen", f"127.0.0.1:{port}", "--new"]
+    words = [*BEFORE, PROGRAM, "serve", f"{folder}/data", f"{folder}/keys", "--listen", f"127.0.0.1:{port}", "--new"]
     process = subprocess.Popen(words, stdout=subprocess.DEVNULL)
     return process, process.pid
 
@@ -69,43 +73,18 @@ def nginx(folder, port, body):
             f"http {{ access_log off; keepalive_requests 1000; server {{ listen 127.0.0.1:{port};\n"
             f"location / {{ default_type application/json; return 403 '{body.decode()}'; }} }} }}\n"
         )
-    process = subprocess.Popen(["nginx", "-c", f"{folder}/nginx.conf"])
+    process = subprocess.Popen([*BEFORE, "nginx", "-c", f"{folder}/nginx.conf"])
     asked(port)
     workers = subprocess.run(["pgrep", "-P", str(process.pid)], capture_output=True, text=True, check=True)
     return process, int(workers.stdout.split()[0])
 
 
-def processor_seconds(pid):
-    with open(f"/proc/{pid}/stat", encoding="ascii") as it:
-        fields = it.read().rpartition(")")[2].split()
-    return (int(fields[11]) + int(fields[12])) / os.sysconf("SC_CLK_TCK")
-
-
-def measured(pid, port, seconds, more):
-    """Returns requests a second, and microseconds of processor time a request."""
-    before = processor_seconds(pid)
-    said = subprocess.run(
-        ["wrk", "-t1", "-c1", f"-d{seconds}", *FIELDS, *more, f"http://127.0.0.1:{port}{PATH}"],
-        capture_output=True,
-        text=True,
-        check=True,
-    ).stdout
-    used = processor_seconds(pid) - before
-    count = int(re.search(r"(\d+) requests in", said).group(1))
-    rate = float(re.search(r"Requests/sec: *([0-9.]+)", said).group(1))
-    return rate, 1e6 * used / count
-
-
-def calls_of_a_request(pid, port):
-    """Returns how many system calls the server makes for a request on a kept connection."""
+def calls_of_a_request(pid, port, request):
+    """Returns how many system calls the server makes for a request."""
     with tempfile.NamedTemporaryFile() as log:
         tracer = subprocess.Popen(["strace", "-c", "-f", "-p", str(pid), "-o", log.name], stderr=subprocess.DEVNULL)
         time.sleep(1)
-        it = socket.create_connection(("127.0.0.1", port), timeout=30)
-        with it:
-            for _ in range(500):
-                it.sendall(f"GET {PATH} HTTP/1.1\r\nHost: h\r\n{FIELDS[1]}\r\n\r\n".encode())
-                it.recv(65536)
+        turn_of(pid, port, request, 500)
         tracer.send_signal(signal.SIGINT)
         tracer.wait()
         with open(log.name, encoding="ascii") as text:
@@ -114,20 +93,30 @@ def calls_of_a_request(pid, port):
 
 
 def main():
-    seconds = int(sys.argv[1]) if len(sys.argv) > 1 else 5
+    rounds = int(sys.argv[1]) if len(sys.argv) > 1 else 200
     with tempfile.TemporaryDirectory() as folder:
         ours, theirs = free_port(), free_port()
         server, pid = glacier(folder, ours)
         body = asked(ours)
         other, worker = nginx(folder, theirs, body)
+        places = ((pid, ours), (worker, theirs))
         try:
-            print("| | Server | Requests a second | Processor time a request, µs |\n|---|---|---|---|")
-            for name, more in (("one kept connection", []), ("a connection each", ["-H", "Connection: close"])):
-                turns = [(measured(pid, ours, seconds, more), measured(worker, theirs, seconds, more)) for _ in range(3)]
-                for label, place in (("glacier", 0), ("nginx", 1)):
-                    rate, used = min((turn[place] for turn in turns), key=lambda it: it[1])
-                    print(f"| {name} | {label} | {rate:.0f} | {used:.1f} |", flush=True)
-            print(f"\nSystem calls a request on a kept connection: {calls_of_a_request(pid, ours):.2f}")
+            print("| Microseconds a request | Server | Wall time | Processor time |\n|---|---|---|---|")
+            kinds = {}
+            for name, more in (("one kept connection", ""), ("a connection each", "Connection: close\r\n")):
+                kinds[name] = f"GET {PATH} HTTP/1.1\r\nHost: h\r\n{FIELDS[1]}\r\n{more}\r\n".encode()
+                turns = [[], []]
+                for number in range(rounds):
+                    for place in (0, 1) if number % 2 == 0 else (1, 0):
+                        turns[place].append(turn_of(*places[place], kinds[name]))
+                for label, taken in zip(("glacier", "nginx"), turns):
+                    print(f"| {name} | {label} | {' | '.join(middle(it) for it in zip(*taken))} |")
+                ratios = [[one[kind] / other[kind] for one, other in zip(*turns)] for kind in (0, 1)]
+                print(f"| {name} | glacier by nginx | {' | '.join(middle(it, 2) for it in ratios)} |", flush=True)
+            print(f"\nload {os.getloadavg()[0]:.1f}\n\n| System calls a request | glacier | nginx |\n|---|---|---|")
+            for name, request in kinds.items():
+                calls = (f"{calls_of_a_request(*place, request):.2f}" for place in places)
+                print(f"| {name} | {' | '.join(calls)} |")
         finally:
             for process in (server, other):
                 process.terminate()

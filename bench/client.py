@@ -1,13 +1,19 @@
-"""What the scripts under bench/ share: signed requests, connections to a server that is started, and its replies."""
+"""What the scripts under bench/ share: signed requests, connections to a server that is started, and its replies.
+
+GLACIER in the environment names another program than the one that ./glacier builds, and BEFORE has words to run each server
+under, such as `chrt -f 50`.
+"""
 import hashlib
 import hmac
 import os
 import socket
+import statistics
 import subprocess
 import time
 
 ROOT = os.path.dirname(os.path.dirname(os.path.abspath(__file__)))
-PROGRAM = f"{ROOT}/crates/glacier_cli/out/glacier_cli"
+PROGRAM = os.environ.get("GLACIER", f"{ROOT}/crates/glacier_cli/out/glacier_cli")
+BEFORE = os.environ.get("BEFORE", "").split()
 KEYS = ("111122223333", "AKIDEXAMPLE", "wJalrXUtnFEMI/K7MDENG+bPxRfiCYEXAMPLEKEY")
 KEPT = 1000
 
@@ -32,12 +38,19 @@ def signed(method, path, more=""):
 
 def build():
     """Builds the program, before anything is signed: that may take longer than a signature is good for."""
-    subprocess.run([f"{ROOT}/glacier", "hash", "/dev/null"], stdout=subprocess.DEVNULL, check=True)
+    if "GLACIER" not in os.environ:
+        subprocess.run([f"{ROOT}/glacier", "hash", "/dev/null"], stdout=subprocess.DEVNULL, check=True)
 
 
 def write_keys(name):
     with open(name, "w", encoding="ascii") as it:
         it.write(" ".join(KEYS) + " 64\n")
+
+
+def processor_seconds(process):
+    """The processor time of a process so far, user and system, which the system counts in nanoseconds."""
+    with open(f"/proc/{process}/schedstat", encoding="ascii") as it:
+        return int(it.read().split()[0]) / 1e9
 
 
 def free_port():
@@ -46,9 +59,9 @@ def free_port():
         return it.getsockname()[1]
 
 
-def serving(folder, keys, port, *more, before=()):
-    """Starts the program that was built, to serve what the folder holds. Words before it run it under another one."""
-    words = [*before, PROGRAM, "serve", folder, keys, "--listen", f"127.0.0.1:{port}", *more]
+def serving(folder, keys, port, *more, program=PROGRAM):
+    """Starts the program that was built, or another one, to serve what the folder holds."""
+    words = [*BEFORE, program, "serve", folder, keys, "--listen", f"127.0.0.1:{port}", *more]
     return subprocess.Popen(words, stdout=subprocess.PIPE)
 
 
@@ -66,6 +79,36 @@ def connected(port, process=None, patience=60.0):
             if time.monotonic() > until:
                 raise
             time.sleep(0.0005)
+
+
+def turn_of(pid, port, request, count=100):
+    """Asks so often, on one connection, or on one each where the request asks to close. It returns the median of how long the
+    replies took and the server's processor time for a request, in microseconds. Each reply comes whole in one piece."""
+    closes, taken, it = b"Connection: close" in request, [], None
+    before = processor_seconds(pid)
+    for _ in range(count):
+        start = time.perf_counter()
+        if it is None:
+            it = socket.create_connection(("127.0.0.1", port))
+            it.setsockopt(socket.IPPROTO_TCP, socket.TCP_NODELAY, 1)
+        it.sendall(request)
+        reply = it.recv(65536)
+        taken.append(time.perf_counter() - start)
+        assert reply.startswith(b"HTTP/1.1 "), reply
+        if closes:
+            assert it.recv(65536) == b""
+            it.close()
+            it = None
+    spent = processor_seconds(pid) - before
+    if it is not None:
+        it.close()
+    return 1e6 * statistics.median(taken), 1e6 * spent / count
+
+
+def middle(values, digits=1):
+    """The median, and the middle half."""
+    low, middle, high = statistics.quantiles(values, n=4)
+    return f"{middle:.{digits}f} ({low:.{digits}f} to {high:.{digits}f})"
 
 
 class Replies:

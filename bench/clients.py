@@ -3,15 +3,19 @@
 
     bench/clients.py [SECONDS]
 
-It starts the program at a free port of the loopback network (GLACIER names another program than ./glacier) and prints three
-tables. The first has how long a client waits for its reply behind others that don't behave. The second has what comes of
+It starts the program at a free port of the loopback network (GLACIER names another program than ./glacier, and BEFORE has words
+to run it under, such as `chrt -f 50`) and prints three tables. The first has how long a client waits for its reply behind others that don't behave. The second has what comes of
 many clients that do: six of boto3 in turn, where boto3 is there, and 1,000 connections with a request every 100 ms each.
 The third is a mixed hostile load of so many seconds (60 where no number is given) beside a client that asks every 20 ms, and
-what it leaves: descriptors, memory, and the process. Each run is bounded, and what it starts it ends.
+what it leaves: descriptors, memory, and the process. For each wait above 100 ms it says for how much of it a body that comes
+slowly was in hand; an echo that is asked beside it shows what the machine is late with. Each run is bounded, and what it starts
+it ends.
 
 A request for the description of a vault isn't signed here, but by boto3: its reply is the refusal, which is compared.
 """
 
+import collections
+import multiprocessing
 import os
 import random
 import resource
@@ -26,6 +30,7 @@ import time
 
 ROOT = os.path.dirname(os.path.dirname(os.path.abspath(__file__)))
 PROGRAM = os.environ.get("GLACIER", f"{ROOT}/glacier")
+BEFORE = os.environ.get("BEFORE", "").split()
 KEYS = ("111122223333", "AKIDEXAMPLE", "wJalrXUtnFEMI/K7MDENG+bPxRfiCYEXAMPLEKEY")
 
 
@@ -58,7 +63,7 @@ class Server:
             if descriptors:
                 resource.setrlimit(resource.RLIMIT_NOFILE, (descriptors, descriptors))
 
-        words = [PROGRAM, "serve", folder, keys, "--listen", f"127.0.0.1:{self.port}", "--new"]
+        words = [*BEFORE, PROGRAM, "serve", folder, keys, "--listen", f"127.0.0.1:{self.port}", "--new"]
         self.process = subprocess.Popen(words, stdout=subprocess.PIPE, preexec_fn=limit)
         until = time.monotonic() + 1800
         while True:
@@ -141,10 +146,10 @@ def reset(connection):
 
 
 def fed(connection, text, seconds, stop):
-    """Sends a byte every so many seconds."""
+    """Sends a byte, or the next of some texts, every so many seconds."""
     try:
-        for byte in text:
-            connection.sendall(bytes([byte]))
+        for part in text:
+            connection.sendall(part if isinstance(part, bytes) else bytes([part]))
             if stop.wait(seconds):
                 return
     except OSError:
@@ -177,6 +182,26 @@ def behind_fed(server, name, first, rest):
         row(name, most_of(server))
         stop.set()
         thread.join()
+
+
+def behind_enough(server, seconds=12):
+    """A body at the least rate that may keep others waiting: they wait until its client leaves, which is so many seconds later."""
+    stop = threading.Event()
+    with server.connected() as it:
+        it.sendall(BODY)
+        thread = threading.Thread(target=fed, args=(it, [bytes(14000)] * 60, 0.9, stop))
+        thread.start()
+        time.sleep(0.5)
+
+        def leave():
+            stop.set()
+            thread.join()
+            reset(it)
+
+        timer = threading.Timer(seconds, leave)
+        timer.start()
+        row(f"a body of 14,000 bytes each 0.9 s, whose client leaves after {seconds} s", most_of(server))
+        timer.join()
 
 
 def behind_unread(server):
@@ -252,38 +277,63 @@ def boto_clients(server):
         row(f"{count} boto3 client{'s' if count > 1 else ''}, 1,000 requests in turn", f"{spent:.2f}", f"{1000 * most:.1f}")
 
 
-def thousand(server, seconds=10, count=1000, gap=0.1):
-    """So many kept connections, each with a request every 100 ms."""
-    selector, waits = selectors.DefaultSelector(), []
-    start = time.monotonic() + 1
-    others = []
+def asked_often(port, start, seconds, count, gap):
+    """Asks on so many kept connections, on each every so many seconds. It returns how long after it was due each reply came."""
+    selector, due, waits = selectors.DefaultSelector(), collections.deque(), []
     for number in range(count):
-        it = server.connected()
+        it = socket.create_connection(("127.0.0.1", port))
+        it.setsockopt(socket.IPPROTO_TCP, socket.TCP_NODELAY, 1)
         it.setblocking(False)
-        client = [it, start + gap * number / count, None]
-        others.append(client)
-        selector.register(it, selectors.EVENT_READ, client)
-    due = 0
+        selector.register(it, selectors.EVENT_READ)
+        due.append((start + gap * number / count, it))
+    sent = {}
     while time.monotonic() < start + seconds:
-        now = time.monotonic()
-        while others[due % count][1] <= now:
-            client = others[due % count]
-            if client[2] is None:
-                client[2] = now
-                client[0].send(GET)
-            client[1] += gap
-            due += 1
-        for key, _ in selector.select(0.001):
-            assert key.fileobj.recv(65536), "a connection was closed"
-            client = key.data
-            if client[2] is not None:
-                waits.append(time.monotonic() - client[2])
-                client[2] = None
-    for it in others:
-        it[0].close()
-    waits.sort()
-    row(f"{count} connections, {len(waits):,} replies in {seconds} s: median and p99, ms",
-        f"{1000 * waits[len(waits) // 2]:.1f}", f"{1000 * waits[len(waits) * 99 // 100]:.1f}")
+        while due[0][0] <= time.monotonic():
+            moment, it = due.popleft()
+            due.append((moment + gap, it))
+            if it not in sent:
+                it.send(GET)
+                sent[it] = collections.deque()
+            sent[it].append(moment)
+        for key, _ in selector.select(max(0, due[0][0] - time.monotonic())):
+            it = key.fileobj
+            assert it.recv(65536), "a connection was closed"
+            waits.append(time.monotonic() - sent[it].popleft())
+            if sent[it]:
+                it.send(GET)
+            else:
+                del sent[it]
+    for _, it in due:
+        it.close()
+    return waits
+
+
+def thousand(server, seconds=10, count=1000, gap=0.1, processes=4):
+    """So many kept connections, each with a request every 100 ms, of several processes, so that the client isn't what is late."""
+    job = (server.port, time.monotonic() + 2, seconds, count // processes, gap)
+    with multiprocessing.get_context("fork").Pool(processes) as pool:
+        waits = sorted(it for part in pool.starmap(asked_often, [job] * processes) for it in part)
+    row(f"{count} connections, {len(waits):,} replies in {seconds} s: median, p99 and most, ms", *(
+        f"{1000 * it:.1f}" for it in (waits[len(waits) // 2], waits[len(waits) * 99 // 100], waits[-1])))
+
+
+class Spans:
+    """When something was so, from moment to moment."""
+
+    def __init__(self):
+        self.spans = []
+
+    def add(self, start):
+        self.spans.append((start, time.monotonic()))
+
+    def within(self, start, end):
+        """For how long it was so between two moments."""
+        covered, until = 0.0, start
+        for first, last in sorted(self.spans):
+            first, last = max(first, until), min(last, end)
+            if first < last:
+                covered, until = covered + last - first, last
+        return covered
 
 
 def hostile(server, until, seed):
@@ -320,41 +370,107 @@ def hostile(server, until, seed):
         time.sleep(0.02)
 
 
-def slow_bodies(server, until, seed):
+def is_closed(connection, seconds):
+    """Whether the server closes a connection in so many seconds, without a reply."""
+    connection.settimeout(seconds)
+    try:
+        return connection.recv(1) == b""
+    except TimeoutError:
+        return False
+
+
+def slow_bodies(server, until, seed, in_hand):
     """A body of 8 GiB, of which a byte comes each second, once in 15 s: the others wait at most 5 s for it."""
     draw = random.Random(seed)
     while time.monotonic() < until:
+        start = time.monotonic()
         try:
             with server.connected() as it:
                 it.sendall(BODY + bytes(draw.randrange(100000)))
-                fed(it, bytes(8), 1, threading.Event())
+                for _ in range(8):
+                    it.sendall(bytes(1))
+                    if is_closed(it, 1):
+                        break
         except OSError:
             pass
+        in_hand.add(start)
         time.sleep(7)
+
+
+def load(server, until, spans):
+    """The whole hostile load. It puts out when a body was in hand."""
+    in_hand = Spans()
+    threads = [threading.Thread(target=hostile, args=(server, until, seed)) for seed in range(23)]
+    threads.append(threading.Thread(target=slow_bodies, args=(server, until, 23, in_hand)))
+    for it in threads:
+        it.start()
+    for it in threads:
+        it.join()
+    spans.put(in_hand.spans)
+
+
+ECHO = """
+import socket
+it = socket.create_server(("127.0.0.1", 0))
+print(it.getsockname()[1], flush=True)
+while True:
+    with it.accept()[0] as one:
+        one.sendall(one.recv(64))
+"""
+
+
+def control(until, spans):
+    """Asks an echo beside the server, in the same way and as often: what it waits for, the machine is late with."""
+    with subprocess.Popen([*BEFORE, sys.executable, "-c", ECHO], stdout=subprocess.PIPE) as echo:
+        port, late = int(echo.stdout.readline()), Spans()
+        while time.monotonic() < until:
+            start = time.monotonic()
+            with socket.create_connection(("127.0.0.1", port)) as it:
+                it.sendall(b"x")
+                it.recv(1)
+            if time.monotonic() - start > 0.1:
+                late.add(start)
+            time.sleep(0.02)
+        echo.terminate()
+    spans.put(late.spans)
 
 
 def mixed(server, seconds):
     server.waited()
     time.sleep(2)
     before = server.descriptors(), server.resident_kib()
-    until = time.monotonic() + seconds
-    threads = [threading.Thread(target=hostile, args=(server, until, seed)) for seed in range(23)]
-    threads.append(threading.Thread(target=slow_bodies, args=(server, until, 23)))
-    for it in threads:
+    first = time.monotonic()
+    until = first + seconds
+    fork = multiprocessing.get_context("fork")
+    bodies, late = fork.SimpleQueue(), fork.SimpleQueue()
+    others = [fork.Process(target=load, args=(server, until, bodies)), fork.Process(target=control, args=(until, late))]
+    for it in others:
         it.start()
-    waits = []
+    asked = Spans()
     while time.monotonic() < until:
-        waits.append(server.waited())
+        start = time.monotonic()
+        server.waited()
+        asked.add(start)
         time.sleep(0.02)
-    for it in threads:
+    in_hand, machine = Spans(), Spans()
+    in_hand.spans, machine.spans = bodies.get(), late.get()
+    for it in others:
         it.join()
     time.sleep(3)
-    waits.sort()
+    left = []
+    for start, end in asked.spans:
+        if end - start > 0.1:
+            body = in_hand.within(start, end)
+            left.append(end - start - body)
+            row(f"at {start - first:.1f} s: {1000 * (end - start):.0f} ms", f"a body in hand for {1000 * body:.0f} ms, left {1000 * left[-1]:.0f}")
+    waits = sorted(end - start for start, end in asked.spans)
     row("requests of the client that behaves", f"{len(waits):,}")
     row("its waits: median, p99, most, ms", ", ".join(
         f"{1000 * it:.1f}" for it in (waits[len(waits) // 2], waits[len(waits) * 99 // 100], waits[-1])))
-    behind = [it for it in waits if it > 0.1]
-    row("waits above 100 ms, and above 5.1 s", f"{len(behind):,}, {sum(it > 5.1 for it in behind):,}")
+    row("waits above 100 ms, and those of which more than 100 ms are left without the body", f"{len(left)}, {sum(it > 0.1 for it in left)}")
+    row("the most that is left of one, ms", f"{1000 * max(left, default=0):.0f}")
+    row("waits above 100 ms for the echo beside it, and the longest, ms",
+        f"{len(machine.spans)}, {1000 * max((last - start for start, last in machine.spans), default=0):.0f}")
     row("descriptors before and after", f"{before[0]}, {server.descriptors()}")
     row("resident before and after, KiB", f"{before[1]:,}, {server.resident_kib():,}")
     row("the process is alive", str(server.is_alive()))
@@ -377,6 +493,7 @@ def main():
             behind_kept(server)
             behind_bodies(server)
             behind_fed(server, "a client that sends a byte of a body every 4 s", BODY, bytes(10))
+            behind_enough(server)
             behind_unread(server)
             few_descriptors(folder)
             print()

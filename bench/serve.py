@@ -3,12 +3,13 @@
 
     bench/serve.py [REQUESTS]
 
-It starts the program at a free port (GLACIER names another program than ./glacier), makes a vault, and asks for it so many times (20,000 where no number is given): on
-connections that are kept for 1,000 requests, which is the most that one may have, and on a connection for each request.
-Each request is signed, once for the whole run, so a run may take no longer than 15 minutes. It prints requests a second, and the processor time that the server took for a request (user and system, by
-/proc/PID/stat). Then clients come that don't behave, and each time it is seen that the next one is served. Last a client
-connects and says nothing, and the time is taken until a second client has its reply; the same for a client that sends one
-byte a second of a head of some bytes.
+It starts the program at a free port (GLACIER names another program than ./glacier, and BEFORE has words to run it under),
+makes a vault, and asks for it so many times (20,000 where no number is given): on connections that are kept for 1,000
+requests, which is the most that one may have, and on a connection for each request. Each request is signed, once for the whole
+run, so a run may take no longer than 15 minutes. It prints requests a second, and the processor time that the server took for
+a request (user and system, by /proc/PID/stat). Then clients come that don't behave, and each time it is seen that the next one
+is served. Last a client connects and says nothing, and the time is taken until a second client has its reply; the same for a
+client that sends one byte a second of a head of some bytes.
 
 Each reply is compared with what the first one was, its date aside.
 """
@@ -26,6 +27,7 @@ import time
 
 ROOT = os.path.dirname(os.path.dirname(os.path.abspath(__file__)))
 PROGRAM = os.environ.get("GLACIER", f"{ROOT}/glacier")
+BEFORE = os.environ.get("BEFORE", "").split()
 KEPT = 1000
 KEYS = ("111122223333", "AKIDEXAMPLE", "wJalrXUtnFEMI/K7MDENG+bPxRfiCYEXAMPLEKEY")
 PATH = "/-/vaults/bench"
@@ -50,7 +52,8 @@ def signed(method, more=""):
 
 
 # The program is built before anything is signed, since that may take longer than a signature is good for.
-subprocess.run([f"{ROOT}/glacier", "hash", "/dev/null"], stdout=subprocess.DEVNULL, check=True)
+if "GLACIER" not in os.environ:
+    subprocess.run([PROGRAM, "hash", "/dev/null"], stdout=subprocess.DEVNULL, check=True)
 PUT = signed("PUT")
 GET = signed("GET")
 GET_AND_CLOSE = signed("GET", "Connection: close\r\n")
@@ -215,7 +218,7 @@ def main():
     with tempfile.TemporaryDirectory() as folder:
         with open(f"{folder}/keys", "w", encoding="ascii") as it:
             it.write(" ".join(KEYS) + " 64\n")
-        words = [PROGRAM, "serve", folder, f"{folder}/keys", "--listen", f"127.0.0.1:{port}", "--new"]
+        words = [*BEFORE, PROGRAM, "serve", folder, f"{folder}/keys", "--listen", f"127.0.0.1:{port}", "--new"]
         process = subprocess.Popen(words, stdout=subprocess.PIPE)
         try:
             with connected(port, 1800.0) as it:

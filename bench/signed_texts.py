@@ -1,8 +1,8 @@
 #!/usr/bin/env python3
-"""Prints signed requests, or the replies to them: signed_requests.rt and signed_replies.rt of glacier_tests.
+"""Prints signed requests, or the replies to them: signed_requests.rt and signed_replies.rt of glacier_session_tests.
 
-    bench/signed_texts.py requests >crates/glacier_tests/src/signed_requests.rt
-    bench/signed_texts.py replies >crates/glacier_tests/src/signed_replies.rt
+    bench/signed_texts.py requests >crates/glacier_session_tests/src/signed_requests.rt
+    bench/signed_texts.py replies >crates/glacier_session_tests/src/signed_replies.rt
 
 Signatures are made here by hashlib and hmac alone, as Signature Version 4 states them: the
 canonical request, the string to sign, the signing key, the signature. Replies are put together
