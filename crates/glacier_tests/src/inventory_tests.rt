@@ -42,11 +42,14 @@ fn line_of(row: &Row) -> Option<InventoryLine> {
     })
 }
 
-fn lines_of(alloc: Global, rows: &[Row]) -> Result<List<InventoryLine>, Memory> {
+/// The lines of the first rows, so many.
+fn lines_of(alloc: Global, count: usize) -> Result<List<InventoryLine>, Memory> {
     let mut lines = List::new(alloc);
-    for row in rows {
-        let line = line_of(row).ok_or(Memory)?;
-        lines.push(line)?;
+    for (place, row) in ROWS.iter().enumerate() {
+        if place < count {
+            let line = line_of(row).ok_or(Memory)?;
+            lines.push(line)?;
+        }
     }
     Ok(lines)
 }
@@ -109,8 +112,8 @@ const CASES: [(usize, &str, &str); 3] = [
 ];
 
 /// Whether both inventories of the first archives are these.
-fn are_told(alloc: Global, rows: &[Row], json: &str, csv: &str) -> bool {
-    match &lines_of(alloc, rows) {
+fn are_told(alloc: Global, count: usize, json: &str, csv: &str) -> bool {
+    match &lines_of(alloc, count) {
         Ok(lines) => {
             is_json(alloc, lines, json) == Some(true) && is_csv(alloc, lines, csv) == Some(true)
         }
@@ -121,10 +124,6 @@ fn are_told(alloc: Global, rows: &[Row], json: &str, csv: &str) -> bool {
 #[test]
 fn inventories_list_the_archives_in_order(rt: HostRuntime) {
     for (count, json, csv) in CASES {
-        let rows = ROWS.get(..count).unwrap_or(&[]);
-        assert!(rt;
-            rows.len() == count && are_told(rt.alloc(), rows, json, csv),
-            "{count}"
-        );
+        assert!(rt; are_told(rt.alloc(), count, json, csv), "{count}");
     }
 }
