@@ -309,8 +309,11 @@ def asked_often(port, start, seconds, count, gap):
 
 
 def thousand(server, seconds=10, count=1000, gap=0.1, processes=4):
-    """So many kept connections, each with a request every 100 ms, of several processes, so that the client isn't what is late."""
-    job = (server.port, time.monotonic() + 2, seconds, count // processes, gap)
+    """So many kept connections, each with a request every 100 ms, of several processes, so that the client isn't what is late.
+
+    The first request is due six seconds on, when all are connected: where the listener's queue has no room for a while, the system
+    connects a second later."""
+    job = (server.port, time.monotonic() + 6, seconds, count // processes, gap)
     with multiprocessing.get_context("fork").Pool(processes) as pool:
         waits = sorted(it for part in pool.starmap(asked_often, [job] * processes) for it in part)
     row(f"{count} connections, {len(waits):,} replies in {seconds} s: median, p99 and most, ms", *(
