@@ -8,6 +8,8 @@ mod disk_tests;
 #[cfg(test)]
 mod host_disk_tests;
 #[cfg(test)]
+mod journal_stop_tests;
+#[cfg(test)]
 mod journal_tests;
 #[cfg(test)]
 mod plans;
@@ -25,5 +27,7 @@ mod signed_requests;
 mod signed_tests;
 #[cfg(test)]
 mod stop_tests;
+#[cfg(test)]
+mod store_change_tests;
 #[cfg(test)]
 mod store_tests;

@@ -1,11 +1,9 @@
-// A store on a disk in memory: what making one leaves, what its changes leave, and what opening
-// finds in an image. The bytes are by hand from docs/rules/journal.md.
+// A store on a disk in memory: what making one leaves, and what opening finds in an image. The bytes are by hand from docs/rules/journal.md.
 ghost use Rattle.std.specs.Prelude.{◌≡◌, IfOk, OnOk, false, true};
 
 use crate::plans::{Image, disk_plan, three_areas};
 use glacier_base::{Account, Moment, Region, VaultName};
 use glacier_disk::{Area, Disk, MemPlan, MemStation};
-use glacier_machine::Action;
 use glacier_store::{Store, StoreFault};
 use glacier_vault::Rules;
 use std::alloc::Global;
@@ -22,7 +20,7 @@ pub const WITH_V: Image = (
 );
 
 /// `v` made and deleted then.
-const WITHOUT_V: Image = (
+pub const WITHOUT_V: Image = (
     b"\0",
     b"glacier journal1\x01\0\0\0\x17\x02111122223333\0\0\0\0\x4f\xbe\xd1\x55\x01v\
     \x01\0\0\0\x17\x03111122223333\0\0\0\0\x4f\xbe\xd1\x55\x01v\0",
@@ -226,117 +224,10 @@ fn a_store_is_made_on_empty_areas_alone(rt: HostRuntime) {
 }
 
 /// Whether the areas are these, and Blobs is empty.
-fn holds(station: &MemStation, image: &Image) -> bool {
+pub fn holds(station: &MemStation, image: &Image) -> bool {
     let (lead, left, right) = *image;
     station.area(Area::Lead) == lead
         && station.area(Area::Left) == left
         && station.area(Area::Right) == right
         && station.area(Area::Blobs).is_empty()
-}
-
-/// A PUT or else a DELETE of the vault, and its status.
-type Request = (bool, u16);
-
-fn action_of(is_put: bool, vault: VaultName) -> Action {
-    if is_put {
-        Action::CreateVault { vault }
-    } else {
-        Action::DeleteVault { vault }
-    }
-}
-
-/// Does what is asked for, and answers its status.
-fn do_one<D: Disk>(
-    alloc: Global,
-    disk: &mut D,
-    store: Store,
-    subject: &Subject,
-    is_put: bool,
-) -> Result<(Store, u16), StoreFault>
-    requires { (D.told disk.old).opened ≡ true }
-    ensures { (D.told disk.new).opened ≡ true }
-{
-    let action = action_of(is_put, subject.vault);
-    match store.pass(disk, &subject.rules.account, subject.reading) {
-        Ok((store, m)) => match store.apply(alloc, disk, &subject.rules, m, &action) {
-            Ok((store, answer)) => Ok((store, answer.reply.status)),
-            Err(fault) => Err(fault),
-        },
-        Err(fault) => Err(fault),
-    }
-}
-
-/// Whether each of these is answered with its status.
-fn do_all<D: Disk>(
-    alloc: Global,
-    disk: &mut D,
-    store: Store,
-    subject: &Subject,
-    requests: &[Request],
-) -> bool
-    requires { (D.told disk.old).opened ≡ true }
-{
-    let mut store = store;
-    for (is_put, status) in requests {
-        match do_one(alloc, disk, store, subject, *is_put) {
-            Ok((after, answered)) => {
-                if answered != *status {
-                    return false;
-                }
-                store = after;
-            }
-            Err(_) => return false,
-        }
-    }
-    true
-}
-
-fn open_and_do<D: Disk>(
-    alloc: Global,
-    disk: &mut D,
-    subject: &Subject,
-    requests: &[Request],
-) -> bool
-    requires { (D.told disk.old).opened ≡ false }
-{
-    if disk.open("here").is_err() {
-        return false;
-    }
-    match Store::open(alloc, disk) {
-        Ok(store) => do_all(alloc, disk, store, subject, requests),
-        Err(_) => false,
-    }
-}
-
-/// What a disk holds, what is asked for, and what it holds then.
-const CHANGES: [(Image, &[Request], Image); 7] = [
-    (CREATED, &[(true, 201)], WITH_V),
-    (CREATED, &[(true, 201), (true, 201)], WITH_V),
-    (CREATED, &[(true, 201), (false, 204)], WITHOUT_V),
-    (
-        CREATED,
-        &[(true, 201), (false, 204), (false, 204)],
-        WITHOUT_V,
-    ),
-    (CREATED, &[(false, 204)], CREATED),
-    (WITH_V, &[(true, 201)], WITH_V),
-    (WITH_V, &[(false, 204)], WITHOUT_V),
-];
-
-fn is_changed(alloc: Global, before: &Image, requests: &[Request], after: &Image) -> Option<bool> {
-    let subject = row_subject()?;
-    let mut station = MemStation::new(alloc, disk_plan(alloc, before)?).ok()?;
-    let is_done = open_and_do(alloc, &mut station, &subject, requests);
-    Some(is_done && holds(&station, after))
-}
-
-#[test]
-fn each_event_is_a_record(rt: HostRuntime) {
-    for (before, requests, after) in CHANGES {
-        assert!(rt;
-            is_changed(rt.alloc(), &before, requests, &after) == Some(true),
-            "{}",
-            after.1.len()
-        );
-    }
 }

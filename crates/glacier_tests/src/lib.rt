@@ -8,6 +8,8 @@ mod base_tests;
 #[cfg(test)]
 mod extents_tests;
 #[cfg(test)]
+mod gate_tests;
+#[cfg(test)]
 mod hmac_tests;
 #[cfg(test)]
 mod http_reply_tests;
@@ -15,6 +17,8 @@ mod http_reply_tests;
 mod http_tests;
 #[cfg(test)]
 mod inventory_tests;
+#[cfg(test)]
+mod key_file_tests;
 #[cfg(test)]
 mod map_tests;
 #[cfg(test)]

@@ -1,16 +1,16 @@
-// Requests that were signed by another implementation (botocore), each with changes, and key files.
+// Requests that were signed by another implementation (botocore), each with changes.
 ghost use Rattle.std.specs.Prelude.{◌≡◌, IfOk};
 ghost use Rattle.glacier_sigv4.specs.CanonicalFields.{pair_of_field};
 
 use glacier_base::{Account, Digest, List, Memory, Moment, Region, Text, basic_text};
 use glacier_http::{Field, HeadRoom, HeadStep, read_head};
 use glacier_sigv4::{
-    AuthFault, KeyFault, KeyRing, canonical_request, payload_text, sign, string_to_sign, verify,
+    AuthFault, KeyRing, canonical_request, payload_text, sign, string_to_sign, verify,
 };
 use std::alloc::Global;
 use std::test::Fail;
 
-const KEY_FILE: &str = "111122223333 AKIDEXAMPLE wJalrXUtnFEMI/K7MDENG+bPxRfiCYEXAMPLEKEY 64";
+pub const KEY_FILE: &str = "111122223333 AKIDEXAMPLE wJalrXUtnFEMI/K7MDENG+bPxRfiCYEXAMPLEKEY 64";
 
 const EMPTY: &[u8] = b"e3b0c44298fc1c149afbf4c8996fb92427ae41e4649b934ca495991b7852b855";
 
@@ -280,55 +280,4 @@ fn canonical_requests(rt: HostRuntime) {
             "{query}"
         );
     }
-}
-
-/// Key files, and the line that is bad, 0 where none is.
-const KEY_FILES: [(&str, u32); 15] = [
-    ("", 1),
-    ("\n", 1),
-    (KEY_FILE, 0),
-    ("111122223333 A s 0000064\n", 0),
-    ("111122223333 A s 00000064\n", 1),
-    ("111122223333 A s 64\n\n", 2),
-    ("111122223333 A s 64\n111122223333 B s 1", 2),
-    ("111122223333 A s 64\n211122223333 A s 1", 2),
-    ("111122223333 A s 64\n211122223333 B s 1\n", 0),
-    ("111122223333 A s 1048576\n211122223333 B s 1", 2),
-    ("111122223333 A s 0", 1),
-    ("111122223333 A  s 64", 1),
-    ("111122223333 A s 64 ", 1),
-    ("11112222333 A s 64", 1),
-    ("111122223333 A- s 64", 1),
-];
-
-/// The line that is bad, 0 where none is.
-fn bad_line(alloc: Global, text: &[u8]) -> Option<u32> {
-    match KeyRing::read(alloc, text) {
-        Ok(_) => Some(0),
-        Err(KeyFault::BadLine { line }) => Some(line),
-        Err(KeyFault::Memory) => None,
-    }
-}
-
-/// A key file of 65 good lines.
-fn many(alloc: Global) -> Option<String> {
-    let mut many = String::new(alloc);
-    for i in 0..65 {
-        many.push_str(format!(in alloc; "{i:012} A{i} s 1\n").ok()?.as_str())
-            .ok()?;
-    }
-    Some(many)
-}
-
-#[test]
-fn key_files(rt: HostRuntime) -> Result<(), Fail> {
-    for (text, line) in KEY_FILES {
-        assert!(rt;
-            bad_line(rt.alloc(), text.as_bytes()) == Some(line),
-            "{text}"
-        );
-    }
-    let many = many(rt.alloc()).ok_or("memory")?;
-    assert!(rt; bad_line(rt.alloc(), many.as_bytes()) == Some(65));
-    Ok(())
 }

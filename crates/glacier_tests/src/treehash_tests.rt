@@ -7,7 +7,6 @@ use glacier_treehash::{
     tree_hash_forked,
 };
 use std::alloc::{AllocError, Global};
-use std::sync::atomic::{AtomicU64, Ordering};
 use std::test::Fail;
 use std::thread::Threads;
 
@@ -24,9 +23,9 @@ const OF_5_MIB: &str = "1eccd0ca741241ce114bde6d24a8de044ccee139ef6651bec9006d2f
 const OF_44_MIB: &str = "d98180bbcdc20e6f77a009fd3f2591d98ebdf252ea77035e283bc8e182018d3f";
 
 // Of leaves of the same bytes, and the plain SHA-256 of two of them.
-const OF_FIRST: &str = "631b84027d6b9e52b539c4e8373622d23032dfadc64d60af87339c9037e4f769";
+pub const OF_FIRST: &str = "631b84027d6b9e52b539c4e8373622d23032dfadc64d60af87339c9037e4f769";
 
-const OF_SECOND: &str = "729b9155f00261a681000ccd0ff20e750ed3d525b5b1e6fc961837a3bb666fd6";
+pub const OF_SECOND: &str = "729b9155f00261a681000ccd0ff20e750ed3d525b5b1e6fc961837a3bb666fd6";
 
 const OF_FIFTH: &str = "913ce5b1447d28935c8acc3bc64add33b4c092c1eda4d6913e42f41f57b73b11";
 
@@ -35,11 +34,12 @@ const OF_THIRD_AND_FOURTH: &str =
 
 const OF_FIRST_4: &str = "c7d749cd55cefa8ed8fbc208202e18d019b7701f29886f7c5d662d77b3903833";
 
-const LINEAR_OF_2_MIB: &str = "1e075c8d478ad21844e33e830a695ef03a4d2488b69ee275bd8947618bb1be1e";
+pub const LINEAR_OF_2_MIB: &str =
+    "1e075c8d478ad21844e33e830a695ef03a4d2488b69ee275bd8947618bb1be1e";
 
 /// Bytes of which byte i is i mod 251. No clause speaks of them: a proof would compute so long a
 /// list.
-fn counted(alloc: Global, length: usize) -> Result<Vec<u8>, AllocError> {
+pub fn counted(alloc: Global, length: usize) -> Result<Vec<u8>, AllocError> {
     let mut bytes = Vec::with_capacity(alloc, length)?;
     for i in 0..length {
         bytes.push((i % 251) as u8)?;
@@ -52,7 +52,7 @@ fn letters(alloc: Global, length: usize) -> Result<Vec<u8>, AllocError> {
     vec![in alloc; b'a'; length]
 }
 
-fn is_shown(digest: &Digest, text: &str) -> bool {
+pub fn is_shown(digest: &Digest, text: &str) -> bool {
     digest.text().as_slice() == text.as_bytes()
 }
 
@@ -209,105 +209,5 @@ fn nodes_of_5_mib(rt: HostRuntime) -> Result<(), Fail> {
         assert!(rt; is_no_node(&leaves, first, end), "{first} to {end}");
     }
     assert!(rt; !is_node(0, 0, 0));
-    Ok(())
-}
-
-/// What was told to a gate: how often it was called, and with which numbers of leaves, summed up.
-#[derive(Drop)]
-struct Calls {
-    count: AtomicU64,
-    sum: AtomicU64,
-}
-
-impl Gate for Calls {
-    fn before_leaf(&self, index: u64) {
-        self.count.fetch_add(1, Ordering::SeqCst);
-        self.sum.fetch_add(index, Ordering::SeqCst);
-    }
-}
-
-/// The count and the sum for so many bytes.
-fn gate_calls<R: Threads + Sync>(rt: &R, bytes: &[u8]) -> (u64, u64)
-    requires { length bytes.now ≤ 2 ^ 63 }
-{
-    let calls = Calls {
-        count: AtomicU64::new(0),
-        sum: AtomicU64::new(0),
-    };
-    tree_hash_forked(rt, bytes, 2, &calls);
-    (
-        calls.count.load(Ordering::SeqCst),
-        calls.sum.load(Ordering::SeqCst),
-    )
-}
-
-#[test]
-fn gate_is_called_for_each_leaf(rt: HostRuntime) -> Result<(), Fail> {
-    for (length, want) in [(0, (1, 0)), (3 * MIB + 1, (4, 6))] {
-        let bytes = counted(rt.alloc(), length)?;
-        assert!(rt; gate_calls(&rt, &bytes) == want, "{length} bytes");
-    }
-    Ok(())
-}
-
-/// Each call waits, at most so many turns, until the other one has come.
-#[derive(Drop)]
-struct Meeting {
-    came: AtomicU64,
-    late: AtomicU64,
-}
-
-impl Gate for Meeting {
-    fn before_leaf(&self, _index: u64) {
-        self.came.fetch_add(1, Ordering::SeqCst);
-        for _ in 0..100_000_000u64 {
-            if self.came.load(Ordering::SeqCst) >= 2 {
-                return;
-            }
-        }
-        self.late.fetch_add(1, Ordering::SeqCst);
-    }
-}
-
-fn new_meeting() -> Meeting {
-    Meeting {
-        came: AtomicU64::new(0),
-        late: AtomicU64::new(0),
-    }
-}
-
-/// Whether both leaves of a tree are hashed at once.
-fn do_forks_meet<R: Threads + Sync>(rt: &R, bytes: &[u8]) -> bool
-    requires { length bytes.now ≤ 2 ^ 63 }
-{
-    let gate = new_meeting();
-    tree_hash_forked(rt, bytes, 1, &gate);
-    gate.late.load(Ordering::SeqCst) == 0
-}
-
-/// The plain hash and those of two leaves, where both leaves are hashed at once.
-fn met_piece<R: Threads + Sync>(rt: &R, bytes: &[u8]) -> Option<[Digest; 3]> {
-    if bytes.len() != 2 * MIB {
-        return None;
-    }
-    let gate = new_meeting();
-    let mut linear = Linear::new();
-    let mut leaves = [Digest([0; 32]); 2];
-    hash_piece(rt, bytes, &mut linear, &mut leaves, 1, &gate);
-    if gate.late.load(Ordering::SeqCst) != 0 {
-        return None;
-    }
-    let [first, second] = leaves;
-    Some([linear.finish(), first, second])
-}
-
-#[test]
-fn two_leaves_at_once(rt: HostRuntime) -> Result<(), Fail> {
-    let bytes = counted(rt.alloc(), 2 * MIB)?;
-    assert!(rt; do_forks_meet(&rt, &bytes));
-    let [linear, first, second] = met_piece(&rt, &bytes).ok_or("one was late")?;
-    assert!(rt; is_shown(&linear, LINEAR_OF_2_MIB));
-    assert!(rt; is_shown(&first, OF_FIRST));
-    assert!(rt; is_shown(&second, OF_SECOND));
     Ok(())
 }

@@ -1,0 +1,117 @@
+// What the changes of a store leave on a disk in memory.
+ghost use Rattle.std.specs.Prelude.{◌≡◌, IfOk, OnOk, false, true};
+
+use crate::plans::{Image, disk_plan};
+use crate::store_tests::{CREATED, Subject, WITH_V, WITHOUT_V, holds, row_subject};
+use glacier_base::VaultName;
+use glacier_disk::{Disk, MemStation};
+use glacier_machine::Action;
+use glacier_store::{Store, StoreFault};
+use std::alloc::Global;
+
+/// A PUT or else a DELETE of the vault, and its status.
+type Request = (bool, u16);
+
+fn action_of(is_put: bool, vault: VaultName) -> Action {
+    if is_put {
+        Action::CreateVault { vault }
+    } else {
+        Action::DeleteVault { vault }
+    }
+}
+
+/// Does what is asked for, and answers its status.
+fn do_one<D: Disk>(
+    alloc: Global,
+    disk: &mut D,
+    store: Store,
+    subject: &Subject,
+    is_put: bool,
+) -> Result<(Store, u16), StoreFault>
+    requires { (D.told disk.old).opened ≡ true }
+    ensures { (D.told disk.new).opened ≡ true }
+{
+    let action = action_of(is_put, subject.vault);
+    match store.pass(disk, &subject.rules.account, subject.reading) {
+        Ok((store, m)) => match store.apply(alloc, disk, &subject.rules, m, &action) {
+            Ok((store, answer)) => Ok((store, answer.reply.status)),
+            Err(fault) => Err(fault),
+        },
+        Err(fault) => Err(fault),
+    }
+}
+
+/// Whether each of these is answered with its status.
+fn do_all<D: Disk>(
+    alloc: Global,
+    disk: &mut D,
+    store: Store,
+    subject: &Subject,
+    requests: &[Request],
+) -> bool
+    requires { (D.told disk.old).opened ≡ true }
+{
+    let mut store = store;
+    for (is_put, status) in requests {
+        match do_one(alloc, disk, store, subject, *is_put) {
+            Ok((after, answered)) => {
+                if answered != *status {
+                    return false;
+                }
+                store = after;
+            }
+            Err(_) => return false,
+        }
+    }
+    true
+}
+
+fn open_and_do<D: Disk>(
+    alloc: Global,
+    disk: &mut D,
+    subject: &Subject,
+    requests: &[Request],
+) -> bool
+    requires { (D.told disk.old).opened ≡ false }
+{
+    if disk.open("here").is_err() {
+        return false;
+    }
+    match Store::open(alloc, disk) {
+        Ok(store) => do_all(alloc, disk, store, subject, requests),
+        Err(_) => false,
+    }
+}
+
+/// What a disk holds, what is asked for, and what it holds then.
+const CHANGES: [(Image, &[Request], Image); 7] = [
+    (CREATED, &[(true, 201)], WITH_V),
+    (CREATED, &[(true, 201), (true, 201)], WITH_V),
+    (CREATED, &[(true, 201), (false, 204)], WITHOUT_V),
+    (
+        CREATED,
+        &[(true, 201), (false, 204), (false, 204)],
+        WITHOUT_V,
+    ),
+    (CREATED, &[(false, 204)], CREATED),
+    (WITH_V, &[(true, 201)], WITH_V),
+    (WITH_V, &[(false, 204)], WITHOUT_V),
+];
+
+fn is_changed(alloc: Global, before: &Image, requests: &[Request], after: &Image) -> Option<bool> {
+    let subject = row_subject()?;
+    let mut station = MemStation::new(alloc, disk_plan(alloc, before)?).ok()?;
+    let is_done = open_and_do(alloc, &mut station, &subject, requests);
+    Some(is_done && holds(&station, after))
+}
+
+#[test]
+fn each_event_is_a_record(rt: HostRuntime) {
+    for (before, requests, after) in CHANGES {
+        assert!(rt;
+            is_changed(rt.alloc(), &before, requests, &after) == Some(true),
+            "{}",
+            after.1.len()
+        );
+    }
+}
