@@ -24,6 +24,8 @@ mod map_tests;
 #[cfg(test)]
 mod outside_tests;
 #[cfg(test)]
+mod policy_tests;
+#[cfg(test)]
 mod sigv4_tests;
 #[cfg(test)]
 mod treehash_tests;
