@@ -4,6 +4,7 @@ pub mod EventLaws
 mod Examples
 pub mod FieldLemmas
 pub mod KeptLaws
+mod KindExamples
 pub mod KindLemmas
 pub mod ManyLemmas
 pub mod OptionLemmas
