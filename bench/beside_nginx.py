@@ -14,39 +14,20 @@ system calls of a request, of both.
 
 import os
 import signal
-import socket
 import subprocess
 import sys
 import tempfile
 import time
 
-from client import middle, turn_of
+from client import BEFORE, build, connected, free_port, middle, serving, turn_of, write_keys
 
-ROOT = os.path.dirname(os.path.dirname(os.path.abspath(__file__)))
-PROGRAM = os.environ.get("GLACIER", f"{ROOT}/glacier")
-BEFORE = os.environ.get("BEFORE", "").split()
 PATH = "/-/vaults/bench"
 FIELDS = ["-H", "x-amz-glacier-version: 2012-06-01"]
 
 
-def free_port():
-    with socket.socket() as it:
-        it.bind(("127.0.0.1", 0))
-        return it.getsockname()[1]
-
-
-def asked(port):
+def asked(port, process):
     """Returns the body of the reply to one request, as soon as the server listens."""
-    until = time.monotonic() + 1800
-    while True:
-        try:
-            it = socket.create_connection(("127.0.0.1", port), timeout=30)
-            break
-        except ConnectionRefusedError:
-            if time.monotonic() > until:
-                raise
-            time.sleep(0.05)
-    with it:
+    with connected(port, process) as it:
         it.sendall(
             f"GET {PATH} HTTP/1.1\r\nHost: h\r\n{FIELDS[1]}\r\nConnection: close\r\n\r\n".encode()
         )
@@ -57,11 +38,9 @@ def asked(port):
 
 
 def glacier(folder, port):
-    with open(f"{folder}/keys", "w", encoding="ascii") as it:
-        it.write("111122223333 AKIDEXAMPLE wJalrXUtnFEMI/K7MDENG+bPxRfiCYEXAMPLEKEY 64\n")
+    write_keys(f"{folder}/keys")
     os.mkdir(f"{folder}/data")
-    words = [*BEFORE, PROGRAM, "serve", f"{folder}/data", f"{folder}/keys", "--listen", f"127.0.0.1:{port}", "--new"]
-    process = subprocess.Popen(words, stdout=subprocess.DEVNULL)
+    process = serving(f"{folder}/data", f"{folder}/keys", port, "--new")
     return process, process.pid
 
 
@@ -73,8 +52,8 @@ def nginx(folder, port, body):
             f"http {{ access_log off; keepalive_requests 1000; server {{ listen 127.0.0.1:{port};\n"
             f"location / {{ default_type application/json; return 403 '{body.decode()}'; }} }} }}\n"
         )
-    process = subprocess.Popen([*BEFORE, "nginx", "-c", f"{folder}/nginx.conf"])
-    asked(port)
+    process = subprocess.Popen([*BEFORE, "nginx", "-c", f"{folder}/nginx.conf"], stdout=subprocess.PIPE)
+    asked(port, process)
     workers = subprocess.run(["pgrep", "-P", str(process.pid)], capture_output=True, text=True, check=True)
     return process, int(workers.stdout.split()[0])
 
@@ -94,10 +73,11 @@ def calls_of_a_request(pid, port, request):
 
 def main():
     rounds = int(sys.argv[1]) if len(sys.argv) > 1 else 200
+    build()
     with tempfile.TemporaryDirectory() as folder:
         ours, theirs = free_port(), free_port()
         server, pid = glacier(folder, ours)
-        body = asked(ours)
+        body = asked(ours, server)
         other, worker = nginx(folder, theirs, body)
         places = ((pid, ours), (worker, theirs))
         try:

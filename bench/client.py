@@ -6,6 +6,7 @@ under, such as `chrt -f 50`.
 import hashlib
 import hmac
 import os
+import resource
 import socket
 import statistics
 import subprocess
@@ -59,10 +60,16 @@ def free_port():
         return it.getsockname()[1]
 
 
-def serving(folder, keys, port, *more, program=PROGRAM):
-    """Starts the program that was built, or another one, to serve what the folder holds."""
+def serving(folder, keys, port, *more, program=PROGRAM, descriptors=None):
+    """Starts the program that was built, or another one, to serve what the folder holds, with at most so many descriptors where a
+    number is given."""
+
+    def limit():
+        if descriptors:
+            resource.setrlimit(resource.RLIMIT_NOFILE, (descriptors, descriptors))
+
     words = [*BEFORE, program, "serve", folder, keys, "--listen", f"127.0.0.1:{port}", *more]
-    return subprocess.Popen(words, stdout=subprocess.PIPE)
+    return subprocess.Popen(words, stdout=subprocess.PIPE, preexec_fn=limit)
 
 
 def connected(port, process=None, patience=60.0):
@@ -127,8 +134,8 @@ class Replies:
         self.kept += more
         return more != b""
 
-    def next(self):
-        """Returns the status and the body of the next reply, or None where the connection ends before its end."""
+    def whole(self):
+        """Returns the head and the body of the next reply, or None where the connection ends before its end."""
         while b"\r\n\r\n" not in self.kept:
             if not self.more():
                 return None
@@ -140,4 +147,9 @@ class Replies:
                 return None
             _, _, rest = self.kept.partition(b"\r\n\r\n")
         self.kept = rest[length:]
-        return int(head.split(b" ")[1]), rest[:length]
+        return head, rest[:length]
+
+    def next(self):
+        """Returns the status and the body of the next reply, or None as `whole` does."""
+        reply = self.whole()
+        return None if reply is None else (int(reply[0].split(b" ")[1]), reply[1])

@@ -28,10 +28,7 @@ import tempfile
 import threading
 import time
 
-ROOT = os.path.dirname(os.path.dirname(os.path.abspath(__file__)))
-PROGRAM = os.environ.get("GLACIER", f"{ROOT}/glacier")
-BEFORE = os.environ.get("BEFORE", "").split()
-KEYS = ("111122223333", "AKIDEXAMPLE", "wJalrXUtnFEMI/K7MDENG+bPxRfiCYEXAMPLEKEY")
+from client import BEFORE, KEYS, Replies, build, connected, free_port, processor_seconds, serving, write_keys
 
 
 def request(method="GET", more=""):
@@ -43,37 +40,15 @@ GET_AND_CLOSE = request(more="Connection: close\r\n")
 BODY = request("PUT", "Content-Length: 8589934592\r\n")
 
 
-def free_port():
-    with socket.socket() as it:
-        it.bind(("127.0.0.1", 0))
-        return it.getsockname()[1]
-
-
 class Server:
     """The program at a free port, with at most so many descriptors where a number is given."""
 
     def __init__(self, folder, descriptors=None):
         self.port = free_port()
         folder = tempfile.mkdtemp(dir=folder)
-        keys = f"{folder}/keys"
-        with open(keys, "w", encoding="ascii") as it:
-            it.write(" ".join(KEYS) + " 64\n")
-
-        def limit():
-            if descriptors:
-                resource.setrlimit(resource.RLIMIT_NOFILE, (descriptors, descriptors))
-
-        words = [*BEFORE, PROGRAM, "serve", folder, keys, "--listen", f"127.0.0.1:{self.port}", "--new"]
-        self.process = subprocess.Popen(words, stdout=subprocess.PIPE, preexec_fn=limit)
-        until = time.monotonic() + 1800
-        while True:
-            try:
-                self.connected().close()
-                return
-            except ConnectionRefusedError:
-                if time.monotonic() > until or self.process.poll() is not None:
-                    raise
-                time.sleep(0.05)
+        write_keys(f"{folder}/keys")
+        self.process = serving(folder, f"{folder}/keys", self.port, "--new", descriptors=descriptors)
+        connected(self.port, self.process).close()
 
     def connected(self, room=None):
         it = socket.socket()
@@ -92,11 +67,6 @@ class Server:
             text = everything(it)
         assert text.startswith(b"HTTP/1.1 4"), text
         return time.monotonic() - start
-
-    def processor_seconds(self):
-        with open(f"/proc/{self.process.pid}/stat", encoding="ascii") as it:
-            fields = it.read().rsplit(")", 1)[1].split()
-        return (int(fields[11]) + int(fields[12])) / os.sysconf("SC_CLK_TCK")
 
     def descriptors(self):
         return len(os.listdir(f"/proc/{self.process.pid}/fd"))
@@ -120,24 +90,6 @@ def everything(connection):
         if not more:
             return text
         text += more
-
-
-def reply(connection):
-    text = b""
-    while b"\r\n\r\n" not in text:
-        text += received(connection)
-    head, _, body = text.partition(b"\r\n\r\n")
-    length = next(int(it.split(b":")[1]) for it in head.split(b"\r\n") if it.lower().startswith(b"content-length:"))
-    while len(body) < length:
-        body += received(connection)
-    return head, body
-
-
-def received(connection):
-    more = connection.recv(65536)
-    if not more:
-        raise EOFError("the connection ended inside a reply")
-    return more
 
 
 def reset(connection):
@@ -218,22 +170,23 @@ def behind_unread(server):
 
 def behind_kept(server):
     with server.connected() as it:
+        replies = Replies(it)
         it.sendall(GET)
-        reply(it)
+        first = replies.whole()
         row("a kept connection that is idle", most_of(server))
         it.sendall(GET)
-        reply(it)
+        assert None not in (first, replies.whole())
 
 
 def behind_bodies(server):
     """Bodies that come at once, of sizes about those of the buffers: each has its reply before the next client's."""
     for size in (1, 700, 1000, 5000, 16000, 17000, 100000, 1 << 20):
         with server.connected() as it:
-            start = time.monotonic()
+            start, replies = time.monotonic(), Replies(it)
             it.sendall(request("PUT", f"Content-Length: {size}\r\n") + bytes(size))
-            reply(it)
+            first = replies.whole()
             it.sendall(GET)
-            reply(it)
+            assert None not in (first, replies.whole())
             assert time.monotonic() - start < 4, size
     row("bodies of 1 byte to 1 MiB that come at once", most_of(server))
 
@@ -242,9 +195,9 @@ def few_descriptors(folder):
     server = Server(folder, 64)
     others = [server.connected() for _ in range(120)]
     waits = most_of(server)
-    before, start = server.processor_seconds(), time.monotonic()
+    before, start = processor_seconds(server.process.pid), time.monotonic()
     time.sleep(3)
-    spent = (server.processor_seconds() - before) / (time.monotonic() - start)
+    spent = (processor_seconds(server.process.pid) - before) / (time.monotonic() - start)
     row(f"120 silent connections, 64 descriptors (idle: {100 * spent:.1f} % of a processor)", waits)
     for it in others:
         it.close()
@@ -483,8 +436,7 @@ def mixed(server, seconds):
 def main():
     seconds = int(sys.argv[1]) if len(sys.argv) > 1 else 60
     resource.setrlimit(resource.RLIMIT_NOFILE, (4096, resource.getrlimit(resource.RLIMIT_NOFILE)[1]))
-    if not os.environ.get("GLACIER"):
-        subprocess.run([PROGRAM, "hash", "/dev/null"], stdout=subprocess.DEVNULL, check=True)
+    build()
     with tempfile.TemporaryDirectory() as folder:
         server = Server(folder)
         try:
