@@ -11,6 +11,7 @@ ghost use Rattle.glacier_vault.specs.declared.state.AccountState.{AccountState};
 ghost use Rattle.glacier_vault.specs.declared.state.VaultState.{VaultState};
 ghost use Rattle.glacier_lock.specs.Denied.{age, delete_archive_row};
 ghost use Rattle.glacier_lock.specs.Locks.{abort_row, complete_row, initiate_row, lock_of};
+ghost use Rattle.glacier_lock.specs.declared.denying.TheConstants.{DAY};
 
 /// The deletion of a live archive is refused where the vault's lock denies it at the archive's age,
 /// whether the lock is in progress or locked.
@@ -30,4 +31,9 @@ pub fn locked_for_good()
         → (state_after account (initiate_row account m name text) ≡ account)
         × (state_after account (complete_row account m name number) ≡ account)
         × (state_after account (abort_row account m name) ≡ account) }
+{}
+
+/// Ages count days of so many seconds.
+pub fn seconds_of_a_day()
+    ensures { DAY ≡ 86400 }
 {}

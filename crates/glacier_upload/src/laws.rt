@@ -19,6 +19,9 @@ ghost use Rattle.glacier_upload.specs.Uploads.{begin_row, abort_row};
 ghost use Rattle.glacier_upload.specs.declared.asks.Found.{Found};
 ghost use Rattle.glacier_upload.specs.declared.asks.PartAsk.{PartAsk};
 ghost use Rattle.glacier_upload.specs.declared.asks.UploadAsk.{UploadAsk};
+ghost use Rattle.glacier_upload.specs.declared.beginning.TheConstants.{MOST_UPLOADS};
+ghost use Rattle.glacier_upload.specs.declared.parts.TheConstants.{LAST_INDEX};
+ghost use Rattle.glacier_upload.specs.declared.single.TheConstants.{MOST_BYTES};
 
 /// Parts are refused unless they hold just the bytes below the size that is named.
 pub fn parts_hold_just()
@@ -76,4 +79,12 @@ pub fn completion_frees_nothing()
     ensures { (account : AccountState) (m : ℕ) (name : List ℕ) (number size : ℕ) (tree : List ℕ)
         → IsLawful account
         → FreesNothing account (change_of (complete_row account m name number size tree)) }
+{}
+
+/// The limits in numbers: open uploads of an account, the last part's index, and the bytes of a
+/// single upload (4 GiB).
+pub fn limits_of_uploads()
+    ensures uploads { MOST_UPLOADS ≡ 1000 }
+    ensures index { LAST_INDEX ≡ 9999 }
+    ensures bytes { MOST_BYTES ≡ 4294967296 }
 {}
