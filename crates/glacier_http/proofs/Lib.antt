@@ -8,6 +8,7 @@ pub mod NumberLemmas
 pub mod OpeningLemmas
 pub mod PieceLemmas
 pub mod PutLemmas
+pub mod RangeLemmas
 pub mod ReadBackLemmas
 pub mod ReadLemmas
 pub mod ResponseLemmas

@@ -8,6 +8,7 @@ pub mod Parsed
 pub mod Printed
 pub mod Put
 pub mod Query
+pub mod Ranges
 pub mod ReadBack
 pub mod Spans
 pub mod Step

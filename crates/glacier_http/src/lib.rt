@@ -15,6 +15,7 @@ mod opening;
 mod printing;
 mod put;
 mod query;
+mod ranges;
 mod reply;
 pub mod reply_laws;
 mod room;
@@ -31,6 +32,7 @@ pub use limits::{MOST_FIELDS, MOST_HEAD, MOST_LINES, MOST_MESSAGES, MOST_PLAIN_H
 pub use numbers::number;
 pub use printing::{write_head, write_reply};
 pub use query::{Pair, query_pairs};
+pub use ranges::{MOST_DIGITS, byte_range, content_range, job_range};
 pub use reply::{Field, Kind, Reply};
 pub use room::HeadRoom;
 pub use span::Span;
