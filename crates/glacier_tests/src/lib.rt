@@ -26,6 +26,8 @@ mod outside_tests;
 #[cfg(test)]
 mod policy_tests;
 #[cfg(test)]
+mod range_tests;
+#[cfg(test)]
 mod sigv4_tests;
 #[cfg(test)]
 mod treehash_tests;
