@@ -19,7 +19,7 @@ use Rattle.glacier_vault.specs.declared.state.AccountState.{AccountState}
 use Rattle.glacier_vault.specs.declared.state.VaultState.{VaultState}
 use Rattle.glacier_vault.specs.declared.vault.TheConstants.{MOST_VAULTS}
 use Rattle.glacier_machine.specs.AccountSteps.{by_row, by_look, step_of, after_event, after_change, fits, after_fitting}
-use Rattle.glacier_machine.specs.Replies.{created, deleted, described}
+use Rattle.glacier_replies.specs.Replies.{created, deleted, described}
 use Rattle.glacier_machine.specs.declared.action.Action.{Action}
 use Rattle.glacier_machine.specs.declared.action.Action.TheVariants.{CreateVault, DescribeVault, DeleteVault}
 

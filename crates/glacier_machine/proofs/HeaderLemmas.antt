@@ -12,7 +12,7 @@ use Rattle.httparse.specs.Grammar.{IsToken, is_token_byte}
 use Rattle.glacier_http.specs.Fields.{lower}
 use Rattle.glacier_http.specs.View.{HasNames}
 use Rattle.glacier_sigv4.specs.Coverage.{is_unsigned, unsigned_in, is_signed, unsigned_host, lesser, least_of, first_unsigned}
-use Rattle.glacier_machine.proofs.NameLemmas.{ascii_by}
+use Rattle.glacier_replies.proofs.NameLemmas.{ascii_by}
 
 small_token : (b : ℕ) → IsTrue (is_token_byte b) → b < 128
 unfolding is_token_byte

@@ -1,9 +1,6 @@
-pub mod AsciiTexts
 pub mod EventLemmas
 pub mod Fitting
-pub mod Floats
 pub mod HeaderLemmas
-pub mod NameLemmas
 pub mod PathLemmas
 pub mod RefusalLemmas
 pub mod RequestLemmas

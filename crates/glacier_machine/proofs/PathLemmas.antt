@@ -7,7 +7,7 @@ use Rattle.std.proofs.lemmas.List.Splits.{length-slice_split, join_with_byte-sli
 use Rattle.std.proofs.lemmas.Slice.Eq.{bytes_eq-Decides}
 use Rattle.glacier_base.specs.Cuts.{is_byte}
 use Rattle.glacier_base.proofs.LackLemmas.{lacks, lacks_not, split_join}
-use Rattle.glacier_machine.specs.Paths.{location}
+use Rattle.glacier_replies.specs.Paths.{location}
 use Rattle.glacier_machine.specs.Routes.{pieces, only, vault_path}
 
 not_only : (piece : List ℕ) (more : List (List ℕ)) → 0 < length more → only (piece ∷ more) ≡ None

@@ -8,7 +8,7 @@ use Rattle.glacier_base.specs.Digests.{digest_of}
 use Rattle.glacier_http.specs.Fields.{values_of}
 use Rattle.glacier_http.specs.View.{HeadText, HasNames}
 use Rattle.glacier_machine.specs.ContentHash.{hash_name, named_hashes, need_refusal, digest_refusal, hash_refusal, length_refusal, mismatch, content_refusal}
-use Rattle.glacier_machine.specs.Messages.{HasAsciiText}
+use Rattle.glacier_replies.specs.Messages.{HasAsciiText}
 use Rattle.glacier_machine.specs.Requests.{account_refusal, token_refusal, version_refusal, first_of_two, fields_refusal, body_refusal, request_refusal, unless, action_of}
 use Rattle.glacier_machine.specs.Routes.{route_of}
 use Rattle.glacier_machine.specs.SignedRequests.{fault_refusal, signer_of, on_account, routed_request, verified_request, needed_request, request_with}
@@ -18,7 +18,7 @@ use Rattle.glacier_machine.specs.declared.routes.Route.{Route}
 use Rattle.glacier_machine.specs.declared.routes.RouteStep.{RouteStep}
 use Rattle.glacier_machine.specs.declared.routes.RouteStep.TheVariants as found
 use Rattle.glacier_machine.proofs.HeaderLemmas.{first_is_ascii}
-use Rattle.glacier_machine.proofs.NameLemmas.{ascii_by}
+use Rattle.glacier_replies.proofs.NameLemmas.{ascii_by}
 use Rattle.glacier_sigv4.specs.Authorization.{AuthorizationText, authorization_of, names_in}
 use Rattle.glacier_sigv4.specs.Coverage.{are_present, first_unsigned}
 use Rattle.glacier_sigv4.specs.Verdict.{Verdict, ClaimText, claim_from, claim_of, claim_in, is_in_scope, is_skewed, is_signed_by, unless_unsigned, judged_entry, judged_key, judged, verdict}

@@ -8,7 +8,7 @@ use Rattle.glacier_vault.specs.declared.state.AccountState.{AccountState}
 use Rattle.glacier_vault.specs.Rows.{Row, answer, state_after}
 use Rattle.glacier_machine.specs.declared.action.Answer.{Answer}
 use Rattle.glacier_machine.specs.AccountSteps.{Step, only_replies, by_row, after_change}
-use Rattle.glacier_machine.specs.Replies.{refused}
+use Rattle.glacier_replies.specs.Replies.{refused}
 
 same_refusal : (one other : Refusal) → (let r : Result Change Refusal = Err one in let s : Result Change Refusal = Err other in r ≡ s) → one ≡ other
 same_refusal one other is = cc

@@ -14,7 +14,7 @@ use Rattle.glacier_vault.specs.Rows.{Row, no_change, create_row, found, with_vau
 use Rattle.glacier_machine.specs.declared.action.Action.{Action}
 use Rattle.glacier_machine.specs.declared.action.Action.TheVariants.{CreateVault, DescribeVault, DeleteVault}
 use Rattle.glacier_machine.specs.declared.action.Answer.{Answer}
-use Rattle.glacier_machine.specs.Replies.{refused, created, deleted, described}
+use Rattle.glacier_replies.specs.Replies.{refused, created, deleted, described}
 
 -- what an action is answered, and the state after it
 pub record Step : Type 0 where

@@ -15,8 +15,8 @@ use Rattle.glacier_vault.specs.Account.{empty_account}
 use Rattle.glacier_machine.specs.declared.action.Request.{Request}
 use Rattle.glacier_machine.specs.declared.config.Config.{Config}
 use Rattle.glacier_machine.specs.AccountSteps.{Step, step_of, after_event, pass_event, after_pass}
-use Rattle.glacier_machine.specs.Refusals.{head_refusal}
-use Rattle.glacier_machine.specs.Replies.{refused}
+use Rattle.glacier_replies.specs.Refusals.{head_refusal}
+use Rattle.glacier_replies.specs.Replies.{refused}
 use Rattle.glacier_machine.specs.SignedRequests.{request_in}
 
 -- the state of the service: each account that was ever changed

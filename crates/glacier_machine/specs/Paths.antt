@@ -1,20 +1,17 @@
 -- What is asked for by a method and a path, in words that routing doesn't share.
-use Rattle.std.specs.Prelude.{◌≡◌, ℕ, List, ◌++◌, Option, Some, None, codes, IsTrue}
+use Rattle.std.specs.Prelude.{◌≡◌, ℕ, List, Option, Some, None, codes, IsTrue}
 use Rattle.std.specs.List.{Contains}
 use Rattle.glacier_base.specs.Names.{is_account}
 use Rattle.glacier_http.specs.View.{HeadText}
 use Rattle.glacier_machine.specs.declared.routes.Op.{Op}
 use Rattle.glacier_machine.specs.declared.routes.Op.TheVariants.{CreateVault, DescribeVault, DeleteVault}
 use Rattle.glacier_machine.specs.declared.routes.Route.{Route}
+use Rattle.glacier_replies.specs.Paths.{location}
 
 -- a path names the account by this word: its 12 digits, or `-` for the caller's own
 abbrev pub IsAccountWord : List ℕ → Option (List ℕ) → Type 0
 IsAccountWord word None = word ≡ codes "-"
 IsAccountWord word (Some account) = (word ≡ account) × IsTrue (is_account account)
-
--- the path of a vault
-abbrev pub location : List ℕ → List ℕ → List ℕ
-location account name = codes "/" ++ account ++ codes "/vaults/" ++ name
 
 -- the method asks for this operation on the vault of this name
 abbrev pub IsOp : List ℕ → List ℕ → Op → Type 0

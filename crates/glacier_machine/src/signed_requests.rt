@@ -1,7 +1,7 @@
 // What a message with a good head asks for.
 ghost use Rattle.std.specs.Prelude.{◌≡◌, ℕ, List, length, IfOk, IfErr};
 ghost use Rattle.glacier_http.specs.View.{HasNames};
-ghost use Rattle.glacier_machine.specs.Messages.{HasAsciiText};
+ghost use Rattle.glacier_replies.specs.Messages.{HasAsciiText};
 ghost use Rattle.glacier_machine.specs.SignedRequests.{fault_refusal as refusal_of_fault, signer_of, on_account, routed_request as request_of_route, verified_request as request_of_verdict, request_with as request_of_head, request_in, IsKept};
 
 use crate::action::Request;

@@ -2,8 +2,8 @@
 ghost use Rattle.std.specs.Prelude.{◌≡◌, ℕ, List, length, IsTrue, true, IfOk, IfErr};
 ghost use Rattle.glacier_http.specs.Spans.{IsGood};
 ghost use Rattle.glacier_machine.specs.Outcomes.{refusal_outcome, request_outcome, rules_of, one};
-ghost use Rattle.glacier_machine.specs.Messages.{HasAsciiText};
-ghost use Rattle.glacier_machine.specs.Refusals.{head_refusal};
+ghost use Rattle.glacier_replies.specs.Messages.{HasAsciiText};
+ghost use Rattle.glacier_replies.specs.Refusals.{head_refusal};
 ghost use Rattle.glacier_machine.specs.SignedRequests.{IsKept};
 ghost use Rattle.glacier_server.specs.Events.{KeepsEvents, IsCallFault, IsFault};
 ghost use Rattle.glacier_server.specs.Front.{AtFront};

@@ -2,7 +2,7 @@ use Rattle.std.proofs.Common.{◌∙◌}
 use Rattle.std.proofs.lemmas.Result.{IfOk-weaker}
 use Rattle.std.specs.Prelude.{IfErr}
 use Rattle.std.proofs.Common.{subst, sym}
-use Rattle.glacier_machine.specs.Messages.{HasAsciiText}
+use Rattle.glacier_replies.specs.Messages.{HasAsciiText}
 use Rattle.glacier_machine.proofs.RefusalLemmas.{refused_ascii}
 use Rattle.glacier_machine.proofs.RequestLemmas.{kept_is_enough}
 use Rattle.glacier_machine.proofs.signed_requests.read_request.Goals as goal

@@ -1,7 +1,7 @@
 use Rattle.std.proofs.Common.{◌≡◌, ◌∙◌, Err, ap, sym}
 use Rattle.std.proofs.lemmas.Result.{IfOk-weaker}
 use Rattle.glacier_vault.specs.Rows.{answer, create_row}
-use Rattle.glacier_machine.specs.Replies.{created}
+use Rattle.glacier_replies.specs.Replies.{created}
 use Rattle.glacier_machine.proofs.RowSteps.{step_refused, state_refused, on_err_of}
 use Rattle.glacier_machine.proofs.steps.create_vault.Goals as goal
 

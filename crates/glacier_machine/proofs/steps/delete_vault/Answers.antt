@@ -2,7 +2,7 @@ use Rattle.std.proofs.Common.{◌≡◌, ◌∙◌, Err, ap, sym}
 use Rattle.std.proofs.lemmas.Result.{IfOk-weaker}
 use Rattle.glacier_vault.specs.Deletions.{delete_row}
 use Rattle.glacier_vault.specs.Rows.{answer}
-use Rattle.glacier_machine.specs.Replies.{deleted}
+use Rattle.glacier_replies.specs.Replies.{deleted}
 use Rattle.glacier_machine.proofs.RowSteps.{step_refused, state_refused, on_ok_of, on_err_of}
 use Rattle.glacier_machine.proofs.steps.delete_vault.Goals as goal
 

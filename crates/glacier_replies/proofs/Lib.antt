@@ -1,0 +1,3 @@
+pub mod AsciiTexts
+pub mod Floats
+pub mod NameLemmas
