@@ -1,0 +1,5 @@
+pub mod FoundLemmas
+pub mod MemberLemmas
+pub mod PathLemmas
+pub mod PlaceLemmas
+pub mod RouteLemmas

@@ -1,0 +1,9 @@
+pub mod Ids
+pub mod JobBodies
+pub mod Members
+pub mod Paths
+pub mod Places
+pub mod Ranges
+pub mod Reads
+pub mod Routes
+pub mod Uploads

@@ -1,0 +1,215 @@
+// The members of the body of a new job.
+ghost use Rattle.std.specs.Prelude.{◌≡◌, option_map};
+ghost use Rattle.serde_json.specs.View.{view};
+ghost use Rattle.glacier_requests.specs.JobBodies.{type_named, tier_named, is_csv_named, type_in, description_in, tier_in, archive_in, range_in, is_csv_in, kind_in, unless_there, unoffered_names, job_in, job_body_of};
+ghost use Rattle.glacier_requests.specs.Reads.{Reads};
+
+use crate::ids::id_number;
+use crate::jobs::{JobBody, JobKind};
+use crate::members::{object_of, present};
+use crate::naming::{bad_member, missing_member, not_offered};
+use crate::range::range_of;
+use crate::unread::Unread;
+use crate::uploads::no_description;
+use glacier_base::{Description, IdKind};
+use glacier_vault::{Refusal, Tier};
+use serde_json::Value;
+use std::alloc::Global;
+
+/// The types of jobs.
+#[derive(Clone, Copy)]
+pub(crate) enum JobType {
+    Retrieval,
+    Inventory,
+}
+
+fn type_named(text: &str) -> Option<JobType>
+    ensures { result ≡ type_named text.now }
+{
+    if text == "archive-retrieval" {
+        Some(JobType::Retrieval)
+    } else if text == "inventory-retrieval" {
+        Some(JobType::Inventory)
+    } else {
+        None
+    }
+}
+
+fn tier_named(text: &str) -> Option<Tier>
+    ensures { result ≡ tier_named text.now }
+{
+    if text == "Expedited" {
+        Some(Tier::Expedited)
+    } else if text == "Standard" {
+        Some(Tier::Standard)
+    } else if text == "Bulk" {
+        Some(Tier::Bulk)
+    } else {
+        None
+    }
+}
+
+/// Whether a format is CSV, or None where it is no format.
+fn is_csv_named(text: &str) -> Option<bool>
+    ensures { result ≡ is_csv_named text.now }
+{
+    if text == "JSON" {
+        Some(false)
+    } else if text == "CSV" {
+        Some(true)
+    } else {
+        None
+    }
+}
+
+fn type_in(alloc: Global, body: &Value) -> Result<JobType, Unread>
+    ensures { Reads (type_in (view body.now)) result }
+{
+    let Some(member) = present(body, "Type") else {
+        return Err(missing_member(alloc, "Type"));
+    };
+    match member.as_str() {
+        Some(text) => match type_named(text) {
+            Some(job_type) => Ok(job_type),
+            None => Err(Unread::Refused(Refusal::BadType)),
+        },
+        None => Err(Unread::Refused(Refusal::BadType)),
+    }
+}
+
+/// Refuses the first member by which a body asks for what isn't offered.
+fn refuse_unoffered(alloc: Global, body: &Value) -> Result<(), Unread>
+    ensures { Reads (unless_there unoffered_names (view body.now)) result }
+{
+    if present(body, "SNSTopic").is_some() {
+        return Err(not_offered(alloc, "SNSTopic"));
+    }
+    if present(body, "SelectParameters").is_some() {
+        return Err(not_offered(alloc, "SelectParameters"));
+    }
+    if present(body, "OutputLocation").is_some() {
+        return Err(not_offered(alloc, "OutputLocation"));
+    }
+    if present(body, "InventoryRetrievalParameters").is_some() {
+        return Err(not_offered(alloc, "InventoryRetrievalParameters"));
+    }
+    Ok(())
+}
+
+fn description_in(alloc: Global, body: &Value) -> Result<Description, Unread>
+    ensures { Reads (description_in (view body.now)) result }
+{
+    let Some(member) = present(body, "Description") else {
+        return Ok(no_description());
+    };
+    match member.as_str() {
+        Some(text) => match Description::parse(text.as_bytes()) {
+            Some(description) => Ok(description),
+            None => Err(bad_member(alloc, "Description")),
+        },
+        None => Err(bad_member(alloc, "Description")),
+    }
+}
+
+fn tier_in(alloc: Global, body: &Value) -> Result<Tier, Unread>
+    ensures { Reads (tier_in (view body.now)) result }
+{
+    let Some(member) = present(body, "Tier") else {
+        return Ok(Tier::Standard);
+    };
+    match member.as_str() {
+        Some(text) => match tier_named(text) {
+            Some(tier) => Ok(tier),
+            None => Err(bad_member(alloc, "Tier")),
+        },
+        None => Err(bad_member(alloc, "Tier")),
+    }
+}
+
+fn archive_in(alloc: Global, body: &Value) -> Result<u64, Unread>
+    ensures { Reads (archive_in (view body.now)) result }
+{
+    let Some(member) = present(body, "ArchiveId") else {
+        return Err(missing_member(alloc, "ArchiveId"));
+    };
+    match member.as_str() {
+        Some(text) => match id_number(IdKind::Archive, text.as_bytes()) {
+            Some(archive) => Ok(archive),
+            None => Err(bad_member(alloc, "ArchiveId")),
+        },
+        None => Err(bad_member(alloc, "ArchiveId")),
+    }
+}
+
+fn range_in(alloc: Global, body: &Value) -> Result<Option<(u64, u64)>, Unread>
+    ensures { Reads (range_in (view body.now)) result }
+{
+    let Some(member) = present(body, "RetrievalByteRange") else {
+        return Ok(None);
+    };
+    match member.as_str() {
+        Some(text) => match range_of(text.as_bytes()) {
+            Some(range) => Ok(Some(range)),
+            None => Err(bad_member(alloc, "RetrievalByteRange")),
+        },
+        None => Err(bad_member(alloc, "RetrievalByteRange")),
+    }
+}
+
+fn is_csv_in(alloc: Global, body: &Value) -> Result<bool, Unread>
+    ensures { Reads (is_csv_in (view body.now)) result }
+{
+    let Some(member) = present(body, "Format") else {
+        return Ok(false);
+    };
+    match member.as_str() {
+        Some(text) => match is_csv_named(text) {
+            Some(csv) => Ok(csv),
+            None => Err(bad_member(alloc, "Format")),
+        },
+        None => Err(bad_member(alloc, "Format")),
+    }
+}
+
+/// What a job of a type asks for. The members of the other type are ignored.
+fn kind_in(alloc: Global, job_type: JobType, body: &Value) -> Result<JobKind, Unread>
+    ensures { Reads (kind_in job_type (view body.now)) result }
+{
+    match job_type {
+        JobType::Retrieval => {
+            let archive = archive_in(alloc, body)?;
+            let range = range_in(alloc, body)?;
+            Ok(JobKind::Archive { archive, range })
+        }
+        JobType::Inventory => {
+            let csv = is_csv_in(alloc, body)?;
+            Ok(JobKind::Inventory { csv })
+        }
+    }
+}
+
+fn job_in(alloc: Global, body: &Value) -> Result<JobBody, Unread>
+    ensures { Reads (job_in (view body.now)) result }
+{
+    let job_type = type_in(alloc, body)?;
+    refuse_unoffered(alloc, body)?;
+    let description = description_in(alloc, body)?;
+    let tier = tier_in(alloc, body)?;
+    let kind = kind_in(alloc, job_type, body)?;
+    Ok(JobBody {
+        tier,
+        description,
+        kind,
+    })
+}
+
+/// What the body of a new job says, or the first that holds of NotJson (it is no JSON object),
+/// MissingMember and BadType for the type, NotOffered, BadMember for the description and the tier,
+/// and by the type MissingMember and BadMember for what is asked for. A member that is null is
+/// missing, and of a repeated one the last counts. Any body may want memory.
+pub fn job_body(alloc: Global, body: &[u8]) -> Result<JobBody, Unread>
+    ensures { Reads (job_body_of body.now) result }
+{
+    let object = object_of(alloc, body)?;
+    job_in(alloc, &object)
+}
