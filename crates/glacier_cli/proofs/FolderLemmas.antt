@@ -14,12 +14,11 @@ use Rattle.glacier_server.specs.Serving.{Comes, Serves, Breaks, Broken, ServesOn
 use Rattle.glacier_server.specs.Session.{Session}
 use Rattle.glacier_store.specs.Stands.{Kept}
 use Rattle.glacier_store.specs.declared.store.Store.{Store}
-use Rattle.glacier_cli.specs.declared.serve.TheConstants.{CONNECTIONS}
 use Rattle.glacier_cli.specs.Beginning.{Starts}
 use Rattle.glacier_cli.specs.Forms.{ServeWords}
 use Rattle.glacier_cli.specs.Program.{FolderEnds, of_server}
 use Rattle.glacier_cli.specs.Serving.{ServesAt, ServesTill, BreaksAt}
-use Rattle.glacier_cli.specs.StationUse.{station_use, default_config, OpensAll}
+use Rattle.glacier_cli.specs.StationUse.{station_use, config_of, OpensAll}
 use Rattle.glacier_cli.proofs.StationLemmas.{Before}
 
 -- the folder that was opened and the address that was listened at
@@ -45,9 +44,9 @@ module _ (tells : Bool) {old mid : Told} (ring : List Entry) (words : ServeWords
   }
 
   -- all that came
-  pub serves_at : {new : Told} {config : Config} {after : Store} {count : ℕ} → config ≡ default_config ring
+  pub serves_at : {new : Told} {config : Config} {after : Store} {count : ℕ} → config ≡ config_of ring words
       → OpensAll (station_use tells old new) words → Serves config mid new store after count
-      → (count < CONNECTIONS → new.listener.to_come ≡ 0) → ServesAt (station_use tells old new) ring words count
+      → (count < words.connections → new.listener.to_come ≡ 0) → ServesAt (station_use tells old new) ring words count
   serves_at {new = new} {after = after} {count = count} is opens given fewer =
       let s = subst (λ (c : Config). Serves c mid new store after count) is given in
       record {
@@ -65,10 +64,10 @@ module _ (tells : Bool) {old mid : Told} (ring : List Entry) (words : ServeWords
       }
 
   -- as far as the fault
-  serves_till : {new : Told} {config : Config} {fault : ServeFault} → config ≡ default_config ring
-      → Breaks config mid new store CONNECTIONS fault → ServesTill (station_use tells old new) ring words fault
+  serves_till : {new : Told} {config : Config} {fault : ServeFault} → config ≡ config_of ring words
+      → Breaks config mid new store words.connections fault → ServesTill (station_use tells old new) ring words fault
   serves_till {new = new} {fault = fault} is given =
-      let s = subst (λ (c : Config). Breaks c mid new store CONNECTIONS fault) is given in
+      let s = subst (λ (c : Config). Breaks c mid new store words.connections fault) is given in
       record {
         store = store;
         starts = starts;
@@ -80,8 +79,8 @@ module _ (tells : Bool) {old mid : Told} (ring : List Entry) (words : ServeWords
         till = s.till;
       }
 
-  breaks_at : {new : Told} {config : Config} {fault : ServeFault} → config ≡ default_config ring
-      → OpensAll (station_use tells old new) words → Broken config mid new store CONNECTIONS fault
+  breaks_at : {new : Told} {config : Config} {fault : ServeFault} → config ≡ config_of ring words
+      → OpensAll (station_use tells old new) words → Broken config mid new store words.connections fault
       → BreaksAt (station_use tells old new) ring words fault
   breaks_at is opens (inl given) = record { opens = inr opens; till = inr (serves_till is given) }
   breaks_at is opens (inr never) = record {
@@ -89,19 +88,19 @@ module _ (tells : Bool) {old mid : Told} (ring : List Entry) (words : ServeWords
     till = inl (record { connections = never.1 ∙ x.connections; readings = never.2 ∙ x.readings });
   }
 
-  ends_till : {new : Told} {config : Config} {length : ℕ} → config ≡ default_config ring
-      → Broken config mid new store CONNECTIONS (server.JournalEnd length)
+  ends_till : {new : Told} {config : Config} {length : ℕ} → config ≡ config_of ring words
+      → Broken config mid new store words.connections (server.JournalEnd length)
       → ServesTill (station_use tells old new) ring words (server.JournalEnd length)
   ends_till is (inl given) = serves_till is given
   ends_till is (inr never) = let clash = never.0 in absurd (cc)
 
 -- the ending of a fault of the server
 pub fault_ends : (tells : Bool) {old mid new : Told} {config : Config} (ring : List Entry) (words : ServeWords) (store : Store)
-    (fault : ServeFault) → config ≡ default_config ring → (IsTrue tells → Before words.is_new old mid)
+    (fault : ServeFault) → config ≡ config_of ring words → (IsTrue tells → Before words.is_new old mid)
     → (IsTrue tells → Starts words.is_new old.reads store)
     → mid.disk_faults ≡ old.disk_faults → mid.listener.faults ≡ old.listener.faults
     → (IsTrue tells → OpensAll (station_use tells old new) words)
-    → (IsTrue tells → Broken config mid new store CONNECTIONS fault)
+    → (IsTrue tells → Broken config mid new store words.connections fault)
     → HasStopped fault mid new
     → FolderEnds (station_use tells old new) ring words (of_server fault)
 fault_ends tells {new = new} ring words store server.Disk is x starts disk listener opens broken shows = (

@@ -3,6 +3,7 @@ pub mod Filled
 pub mod FolderLemmas
 pub mod Hashing
 pub mod KeyPrefixLemmas
+pub mod OptionLemmas
 pub mod PartLemmas
 pub mod ReasonLemmas
 pub mod ServeRunLemmas

@@ -18,7 +18,7 @@ use Rattle.glacier_cli.specs.declared.ending.Ending.{Ending}
 use Rattle.glacier_cli.specs.Beginning.{BeginsIn, IsInOrder, IsSpared, Starts, StartsFrom}
 use Rattle.glacier_cli.specs.Forms.{ServeWords}
 use Rattle.glacier_cli.specs.Serving.{Headline, Spares}
-use Rattle.glacier_cli.specs.StationUse.{station_use, default_config}
+use Rattle.glacier_cli.specs.StationUse.{station_use, config_of}
 
 -- no connection came and no reading was taken, and a crash meanwhile leaves nothing new in a folder that is only looked at
 pub record Before (is_new : Bool) (old new : Told) : Type 0 where
@@ -113,7 +113,7 @@ module _ (tells : Bool) {old : Told} (ring : List Entry) (words : ServeWords) wh
     -- what was served from this store on
     module _ (starts : Starts words.is_new old.reads store)
         (found : (state : State) → StartsFrom words.is_new old.reads state → store.accounts ≡ state) where
-      pub served_on : {new : Told} {config : Config} → config ≡ default_config ring → Serves config mid new store
+      pub served_on : {new : Told} {config : Config} → config ≡ config_of ring words → Serves config mid new store
           → Headline (station_use tells old new) ring words
       served_on {new = new} {config = config} is given =
           let h = subst (λ (c : Config). Serves c mid new store) is given in

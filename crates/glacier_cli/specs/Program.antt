@@ -6,7 +6,6 @@ use Rattle.glacier_server.specs.declared.end.ServeFault.{ServeFault}
 use Rattle.glacier_server.specs.declared.end.ServeFault.TheVariants as server
 use Rattle.glacier_cli.specs.declared.ending.Ending.{Ending}
 use Rattle.glacier_cli.specs.declared.ending.Ending.TheVariants.{Hashed, Served, Usage, FileFault, NoMemory, DiskFault, ListenerFault, NotAJournal, NotEmpty, JournalEnd}
-use Rattle.glacier_cli.specs.declared.serve.TheConstants.{CONNECTIONS}
 use Rattle.glacier_cli.specs.Beginning.{HasNoStore}
 use Rattle.glacier_cli.specs.FileUse.{FileUse, GivesOne, GivesAtMost, IsHashOf}
 use Rattle.glacier_cli.specs.Forms.{Form, ServeWords, hash, serve}
@@ -37,7 +36,7 @@ pub record Refused (station : StationUse) (words : ServeWords) (ending : Ending)
 
 -- how serving the accounts of a ring ends, from the opening of the folder on
 abbrev pub FolderEnds : StationUse → List Entry → ServeWords → Ending → Type 0
-FolderEnds station ring words (Served count) = (count ≤ CONNECTIONS) × NoFault station
+FolderEnds station ring words (Served count) = (count ≤ words.connections) × NoFault station
     × (IsTrue station.tells → ServesAt station ring words count)
 FolderEnds station ring words NoMemory =
     NoFault station × (IsTrue station.tells → BreaksAt station ring words server.Memory)

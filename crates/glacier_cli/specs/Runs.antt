@@ -5,7 +5,6 @@ use Rattle.glacier_base.specs.Outside.{HasRisen}
 use Rattle.glacier_treehash.specs.Tree.{tree_hash_of}
 use Rattle.glacier_sigv4.specs.declared.ring.Entry.{Entry}
 use Rattle.glacier_server.specs.declared.end.ServeFault.TheVariants as server
-use Rattle.glacier_cli.specs.declared.serve.TheConstants.{CONNECTIONS}
 use Rattle.glacier_cli.specs.Beginning.{IsInOrder}
 use Rattle.glacier_cli.specs.Endings.{SinkUse, served_line}
 use Rattle.glacier_cli.specs.FileUse.{FileUse, GivesNone, GivesAtMost}
@@ -24,7 +23,7 @@ PrintsHash files sink name =
 -- the accounts of a ring were served at this address, and how many connections came was written
 abbrev pub PrintsServed : StationUse → SinkUse → List Entry → ServeWords → Type 0
 PrintsServed station sink ring words =
-    (count : ℕ) × (count ≤ CONNECTIONS) × ServesAt station ring words count
+    (count : ℕ) × (count ≤ words.connections) × ServesAt station ring words count
     × (sink.after.written ≡ sink.before.written ++ served_line count)
 
 -- `hash` at status 0, and where no read and no write failed

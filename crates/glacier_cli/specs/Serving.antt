@@ -11,10 +11,9 @@ use Rattle.glacier_server.specs.Session.{Session}
 use Rattle.glacier_store.specs.Stands.{Stands}
 use Rattle.glacier_store.specs.State.{State}
 use Rattle.glacier_store.specs.declared.store.Store.{Store}
-use Rattle.glacier_cli.specs.declared.serve.TheConstants.{CONNECTIONS}
 use Rattle.glacier_cli.specs.Beginning.{IsInOrder, StartsFrom, Starts}
 use Rattle.glacier_cli.specs.Forms.{ServeWords}
-use Rattle.glacier_cli.specs.StationUse.{StationUse, NoneCame, OpensAll, OpensAtMost, default_config}
+use Rattle.glacier_cli.specs.StationUse.{StationUse, NoneCame, OpensAll, OpensAtMost, config_of}
 
 -- so many connections came to this address, and were served for the accounts of a ring, from a store on that was made or
 -- opened in this folder; fewer than the most only where none is left to come
@@ -28,8 +27,8 @@ pub record ServesAt (station : StationUse) (ring : List Entry) (words : ServeWor
   pub comes : Comes station.before station.after came sessions
   pub number : length came ≡ count
   pub left : station.before.listener.to_come ≡ count + station.after.listener.to_come
-  pub each : ServedAll (default_config ring) came sessions store after
-  pub fewer : count < CONNECTIONS → station.after.listener.to_come ≡ 0
+  pub each : ServedAll (config_of ring words) came sessions store after
+  pub fewer : count < words.connections → station.after.listener.to_come ≡ 0
 
 -- those that came before a fault, no more than the most, were served so
 pub record ServesTill (station : StationUse) (ring : List Entry) (words : ServeWords) (fault : ServeFault)
@@ -40,8 +39,8 @@ pub record ServesTill (station : StationUse) (ring : List Entry) (words : ServeW
   pub came : List Connection
   pub sessions : List Session
   pub comes : Comes station.before station.after came sessions
-  pub few : length came ≤ CONNECTIONS
-  pub till : ServedTill (default_config ring) fault came sessions store after
+  pub few : length came ≤ words.connections
+  pub till : ServedTill (config_of ring words) fault came sessions store after
 
 -- the run broke off: no connection came, or some were served till then
 pub record BreaksAt (station : StationUse) (ring : List Entry) (words : ServeWords) (fault : ServeFault) : Type 0 where
@@ -75,7 +74,7 @@ pub record Headline (station : StationUse) (ring : List Entry) (words : ServeWor
   -- it is what the vault machine does for these bytes, from the state on that the folder held
   pub machine : IsNone came sessions
       ⊎ ((store : Store) × Starts words.is_new station.before.reads store
-      × IsServed (default_config ring) came sessions store)
+      × IsServed (config_of ring words) came sessions store)
   -- What a crash at any moment left behind the first accept stands for the state after some first acts of it, and just
   -- the bytes among those had been sent.
   pub stop : (state : State) → StartsFrom words.is_new station.before.reads state

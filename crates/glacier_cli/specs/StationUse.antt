@@ -1,5 +1,5 @@
 -- What a run did at a station: the folder that it opened, and the address where it listened.
-use Rattle.std.specs.Prelude.{◌≡◌, ◌⊎◌, Bool, List, [], ◌∷◌, ◌++◌, codes}
+use Rattle.std.specs.Prelude.{◌≡◌, ◌⊎◌, ℕ, Bool, List, [], ◌∷◌, ◌++◌, Option, Some, None}
 use Rattle.glacier_disk.specs.Told.{Told}
 use Rattle.glacier_machine.specs.declared.config.Config.{Config}
 use Rattle.glacier_sigv4.specs.declared.ring.Entry.{Entry}
@@ -25,9 +25,14 @@ pub record Idle (station : StationUse) : Type 0 where
   pub folders : station.after.folders ≡ station.before.folders
   pub none : NoneCame station
 
--- the accounts of a ring, with the region and the delays of a server that is told of no others
-abbrev pub default_config : List Entry → Config
-default_config ring = record { region = codes "us-east-1"; ring = ring; delays = 300 ∷ 14400 ∷ 28800 ∷ [] }
+-- the seconds that jobs take, by their tier: one number for all where it is named, and else those of Amazon's tiers
+abbrev pub delays_of : Option ℕ → List ℕ
+delays_of None = 300 ∷ 14400 ∷ 28800 ∷ []
+delays_of (Some delay) = delay ∷ delay ∷ delay ∷ []
+
+-- the accounts of a ring, with the region and the delays that a server is told
+abbrev pub config_of : List Entry → ServeWords → Config
+config_of ring words = record { region = words.region; ring = ring; delays = delays_of words.delay }
 
 -- this folder was opened, and this address was listened at, each once, and no other
 pub record OpensAll (station : StationUse) (words : ServeWords) : Type 0 where

@@ -39,9 +39,9 @@ fn ending_of<R: Threads + Sync, F: Files, S: Station>(
         form_of (map string_bytes words.now) ≢ Some (serve_form told)) →
         station.new ≡ station.old }
 {
-    match Command::of(words) {
-        Some(Command::Hash(name)) => hash(rt, alloc, name, files),
-        Some(Command::Serve(serving)) => serve_keys(alloc, &serving, files, station),
+    match &Command::of(words) {
+        Some(Command::Hash(name)) => hash(rt, alloc, *name, files),
+        Some(Command::Serve(serving)) => serve_keys(alloc, serving, files, station),
         None => Ending::Usage,
     }
 }
@@ -54,9 +54,11 @@ fn ending_of<R: Threads + Sync, F: Files, S: Station>(
 /// empty, 10 where the journal had no room for an event.
 ///
 /// The forms are `hash [FILE]`, which prints the tree hash of the file or of standard input, and
-/// `serve FOLDER KEYS --listen ADDR [--new]`, which reads the key file, opens the store in the
-/// folder, or makes one with `--new`, serves the accounts on the connections that come to the
-/// address, at most 1,000,000, and prints how many they were.
+/// `serve FOLDER KEYS --listen ADDR [--region R] [--delay N] [--connections N] [--new]`, which reads
+/// the key file, opens the store in the folder, or makes one with `--new`, serves the accounts on the
+/// connections that come to the address, at most N, else 1,000,000, and prints how many they were.
+/// The options stand in any order, each once. R, else `us-east-1`, is the region. With `--delay` a
+/// retrieval job takes so many seconds, 0 to 31,536,000, whatever its tier.
 pub fn run<R: Threads + Sync, F: Files, S: Station, O: Sink>(
     rt: &R,
     alloc: Global,

@@ -4,32 +4,31 @@ ghost use Rattle.glacier_cli.specs.FileUse.{KeepsContents, file_use};
 ghost use Rattle.glacier_cli.specs.Program.{FolderEnds, HeadlineOf, ServeEnds, of_server};
 ghost use Rattle.glacier_cli.specs.Serving.{Headline};
 ghost use Rattle.glacier_cli.specs.Forms.{serve_words};
-ghost use Rattle.glacier_cli.specs.StationUse.{default_config, station_use};
+ghost use Rattle.glacier_cli.specs.StationUse.{config_of, station_use};
 
 use crate::begin::begin;
 use crate::command::Serving;
 use crate::ending::Ending;
 use crate::keys::read_keys;
-use glacier_base::{Files, Region};
+use glacier_base::Files;
 use glacier_disk::Station;
 use glacier_server::{Config, ServeFault, serve};
 use glacier_sigv4::KeyRing;
 use std::alloc::Global;
 
-/// How many connections are served at most.
-pub const CONNECTIONS: u64 = 1_000_000;
-
-/// The accounts of this ring, with the region and the delays of a server that is told of no others.
-fn default_config(ring: KeyRing) -> Config
-    ensures { result ≡ default_config ring }
+/// What a server is told for the accounts of this ring: its region, and one delay for all tiers, or
+/// the delays of Amazon's tiers where none is named.
+fn config_of(ring: KeyRing, serving: &Serving) -> Config
+    ensures { result ≡ config_of ring (serve_words serving.now) }
 {
-    match Region::parse(b"us-east-1") {
-        Some(region) => Config {
-            region,
-            ring,
-            delays: [300, 14_400, 28_800],
-        },
-        None => unreachable!(),
+    let delays = match serving.delay {
+        Some(delay) => [delay; 3],
+        None => [300, 14_400, 28_800],
+    };
+    Config {
+        region: serving.region,
+        ring,
+        delays,
     }
 }
 
@@ -69,7 +68,8 @@ fn serve_folder<S: Station>(
     if station.listen(serving.address).is_err() {
         return Ending::ListenerFault;
     }
-    match serve(alloc, station, store, &default_config(ring), CONNECTIONS) {
+    let config = config_of(ring, serving);
+    match serve(alloc, station, store, &config, serving.connections) {
         Ok((count, _)) => Ending::Served(count),
         Err(fault) => server_ending(fault),
     }

@@ -1,5 +1,6 @@
 // What is served, printed and answered for the words of `serve`.
 use crate::tests::{Run, USAGE, is_run, quiet};
+use std::test::Fail;
 
 const SERVE: &str = "serve folder keys --listen 127.0.0.1:8080";
 
@@ -139,7 +140,26 @@ serve folder keys --listen 127.0.0.1:8080 more
 serve folder keys --listen 127.0.0.1:8080 --new more
 serve --new folder keys --listen 127.0.0.1:8080
 server folder keys --listen 127.0.0.1:8080
-serve folder keys --listen h\u{e9}:8080";
+serve folder keys --listen h\u{e9}:8080
+serve folder keys --listen 127.0.0.1:8080 --listen 127.0.0.1:8080
+serve folder keys --listen 127.0.0.1:8080 --new --new
+serve folder keys --listen 127.0.0.1:8080 --verbose yes
+serve folder keys --listen=127.0.0.1:8080
+serve folder keys --listen 127.0.0.1:8080 --region
+serve folder keys --listen 127.0.0.1:8080 --region EU
+serve folder keys --listen 127.0.0.1:8080 --region eu-west-1 --region eu-west-1
+serve folder keys --listen 127.0.0.1:8080 --region abcdefghijklmnopqrstuvwxyz0123456
+serve folder keys --listen 127.0.0.1:8080 --delay
+serve folder keys --listen 127.0.0.1:8080 --delay 31536001
+serve folder keys --listen 127.0.0.1:8080 --delay 000000001
+serve folder keys --listen 127.0.0.1:8080 --delay +1
+serve folder keys --listen 127.0.0.1:8080 --delay 1 --delay 1
+serve folder keys --listen 127.0.0.1:8080 --connections
+serve folder keys --listen 127.0.0.1:8080 --connections 0
+serve folder keys --listen 127.0.0.1:8080 --connections 1000001
+serve folder keys --listen 127.0.0.1:8080 --connections one
+serve folder keys --listen 127.0.0.1:8080 --connections 1 --connections 1
+serve folder keys --connections 1";
 
 #[test]
 fn other_words_are_no_form(rt: HostRuntime) {
@@ -153,6 +173,66 @@ fn other_words_are_no_form(rt: HostRuntime) {
             "{words}"
         );
     }
+}
+
+// Signed for the region eu-west-1.
+const PUT_IN_EUROPE: &str = "PUT /-/vaults/examplevault HTTP/1.1\r\n\
+    host: 127.0.0.1:8080\r\n\
+    x-amz-date: 20120525T002453Z\r\n\
+    x-amz-glacier-version: 2012-06-01\r\n\
+    Authorization: AWS4-HMAC-SHA256 Credential=AKIDEXAMPLE/20120525/eu-west-1/glacier/aws4_request, SignedHeaders=host;x-amz-date;x-amz-glacier-version, Signature=36eda47c8a21d2d5201c027b80d21a08cc2b5fa726e5f948cb3dab7d9036bdc1\r\n\r\n";
+
+/// Options behind those of the address and the store, what comes, what is printed and what is sent.
+const OPTIONS: [(&str, &[&str], &str, &str); 8] = [
+    (
+        "--connections 1",
+        &[PUT, GET],
+        "served 1 connections\n",
+        MADE,
+    ),
+    (
+        "--connections 00000002",
+        &[PUT, GET, GET],
+        "served 2 connections\n",
+        MADE_AND_DESCRIBED,
+    ),
+    ("--connections 1000000", &[], "served 0 connections\n", ""),
+    ("--region us-east-1", &[PUT], "served 1 connections\n", MADE),
+    (
+        "--region eu-west-1",
+        &[PUT_IN_EUROPE],
+        "served 1 connections\n",
+        MADE,
+    ),
+    ("--delay 0", &[], "served 0 connections\n", ""),
+    ("--delay 31536000", &[], "served 0 connections\n", ""),
+    (
+        "--delay 60 --connections 1 --region eu-west-1",
+        &[PUT_IN_EUROPE, PUT_IN_EUROPE],
+        "served 1 connections\n",
+        MADE,
+    ),
+];
+
+#[test]
+fn options_stand_in_any_order(rt: HostRuntime) -> Result<(), Fail> {
+    for (options, inputs, printed, sent) in OPTIONS {
+        let behind = format!(in rt.alloc(); "{SERVE_NEW} {options}")?;
+        let before = format!(in rt.alloc();
+            "serve folder keys --new {options} --listen 127.0.0.1:8080"
+        )?;
+        for words in [behind.as_str(), before.as_str()] {
+            let given = Run {
+                inputs,
+                ..quiet(words)
+            };
+            assert!(rt;
+                is_run(&rt, rt.alloc(), &given, 0, printed, sent) == Some(true),
+                "{words}"
+            );
+        }
+    }
+    Ok(())
 }
 
 /// How many bytes an address has, the status and what is printed.
