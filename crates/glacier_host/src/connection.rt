@@ -1,6 +1,7 @@
 // One connection of the listener.
 ghost use Rattle.std.specs.Prelude.{◌≡◌, ◌≤◌, length, true, false, IfOk, IfSome};
 ghost use Rattle.std.specs.Io.KnownBytes.{Keeps};
+ghost use Rattle.glacier_host.specs.declared.connection.Phase.TheVariants.{Open};
 ghost use Rattle.glacier_host.specs.declared.course.Course.TheVariants.{Between};
 ghost use Rattle.glacier_host.specs.Courses.{after, IsBegun};
 ghost use Rattle.glacier_host.specs.Held.{ReadsNow};
@@ -69,6 +70,8 @@ pub struct Connection<S: Drop> {
     pub is_given_back: bool,
     /// The head of its last message asks to close.
     pub asks_to_close: bool,
+    /// When its turn began, or it was last seen in it that no other is due.
+    pub turn_since: u64,
 }
 
 impl<S: Read + OpenStream + AsRawFd + Drop> Connection<S> {
@@ -86,6 +89,7 @@ impl<S: Read + OpenStream + AsRawFd + Drop> Connection<S> {
             is_over: false,
             is_given_back: false,
             asks_to_close: false,
+            turn_since: now,
         }
     }
 
@@ -159,7 +163,10 @@ impl<S: Read + OpenStream + AsRawFd + Drop> Connection<S> {
 
     /// Reads from a connection that waits for its next head, until that is whole or nothing more is
     /// there. One whose peer closes it in silence is over.
-    fn hear_head(&mut self, now: u64, room: &mut HeadRoom) -> Heard {
+    #[tactic(auto, using(crate::proofs::HeldLemmas::keeps_twice))]
+    fn hear_head(&mut self, now: u64, room: &mut HeadRoom) -> Heard
+        ensures none_lost { Keeps (coming S.remaining self.old) (coming S.remaining self.new) }
+    {
         for _ in 0..u64::MAX {
             if self.is_ended && self.held.is_empty() {
                 return Heard::Over;
@@ -202,7 +209,10 @@ impl<S: Read + OpenStream + AsRawFd + Drop> Connection<S> {
     }
 
     /// Reads from a connection that isn't handed out.
-    pub fn hear(&mut self, now: u64, room: &mut HeadRoom) -> Heard {
+    pub fn hear(&mut self, now: u64, room: &mut HeadRoom) -> Heard
+        ensures none_lost { self.old.phase ≡ Open
+            → Keeps (coming S.remaining self.old) (coming S.remaining self.new) }
+    {
         match self.phase {
             Phase::Open => self.hear_head(now, room),
             Phase::Due => Heard::Due,
@@ -211,7 +221,12 @@ impl<S: Read + OpenStream + AsRawFd + Drop> Connection<S> {
     }
 
     /// It waits again for its next head.
-    pub fn give_back(&mut self) {
+    pub fn give_back(&mut self)
+        ensures stream { self.new.stream ≡ self.old.stream }
+        ensures held { self.new.held ≡ self.old.held }
+        ensures course { self.new.course ≡ self.old.course }
+        ensures phase { self.new.phase ≡ Open }
+    {
         self.phase = Phase::Open;
         self.is_given_back = false;
         self.pace = None;

@@ -4,7 +4,7 @@ ghost use Rattle.std.specs.Io.KnownBytes.{Appends};
 ghost use Rattle.std.specs.Option.{option_and_then};
 ghost use Rattle.glacier_base.specs.ByteStreams.{AppendsPart};
 ghost use Rattle.glacier_disk.specs.Calls.{ReceiveCall, SendCall};
-ghost use Rattle.glacier_host.specs.Turns.{place_of_turn, sent_on, HandsOut};
+ghost use Rattle.glacier_host.specs.Turns.{course_of_turn, place_of_turn, sent_on, HandsOut};
 
 use crate::network::Network;
 use crate::{HostStation, turn};
@@ -97,6 +97,7 @@ where
         ensures part { OnErr result (AppendsPart
             (option_and_then (sent_on R.Stream.contents) self.old.turn)
             (option_and_then (sent_on R.Stream.contents) self.new.turn) bytes.now) }
+        ensures course { course_of_turn self.new.turn ≡ course_of_turn self.old.turn }
         ensures call { SendCall (⟦<HostStation<R> as Disk>⟧.told self.old)
             (⟦<HostStation<R> as Disk>⟧.told self.new) result }
     {

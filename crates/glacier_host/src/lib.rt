@@ -1,6 +1,7 @@
 //! A station of the system: its files, its clock, and the connections that come to its listener.
 #![tactic(auto)]
 
+mod clock;
 mod connection;
 mod course;
 mod fault;
@@ -8,6 +9,7 @@ mod held_bytes;
 mod host;
 mod host_disk;
 mod host_station;
+mod listening;
 mod network;
 mod pace;
 mod registering;

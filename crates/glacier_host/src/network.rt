@@ -1,6 +1,8 @@
 // The listener, the connections that wait, and the wait on all of them.
+use crate::clock::millis;
 use crate::connection::{Connection, Heard};
 use crate::fault::AcceptFault;
+use crate::listening::{lengthen_queue, send_at_once};
 use crate::registering::{register, register_for_writing};
 use crate::waiting::{MOST_HELD, Waiting};
 use crate::watch::Watch;
@@ -30,6 +32,8 @@ const SHORTAGE_MILLIS: u64 = 100;
 pub struct Network<R: Net + Clock> {
     alloc: Global,
     listener: R::Listener,
+    // The streams that it gives send at once.
+    gives_prompt: bool,
     poll: Poll,
     events: Events,
     waiting: Waiting<R::Stream>,
@@ -39,14 +43,6 @@ pub struct Network<R: Net + Clock> {
     has_newcomers: bool,
     // No newcomer is taken before, for want of descriptors or memory.
     short_until: Option<u64>,
-}
-
-/// The reading of the clock, or the last one where it can't be read.
-fn millis<R: Clock>(rt: &R, last: u64) -> u64 {
-    match rt.monotonic() {
-        Ok(since) => u64::try_from(since.as_millis()).unwrap_or(u64::MAX),
-        Err(_) => last,
-    }
 }
 
 impl<R: Net + Clock> Network<R> {
@@ -63,12 +59,15 @@ impl<R: Net + Clock> Network<R> {
             return Err(Failed);
         };
         register(&poll, listener.as_raw_fd(), LISTENER)?;
+        lengthen_queue(listener.as_raw_fd());
+        let gives_prompt = send_at_once(listener.as_raw_fd());
         let (Ok(waiting), Ok(head)) = (Waiting::new(alloc), HeadRoom::new(alloc)) else {
             return Err(Failed);
         };
         Ok(Network {
             alloc,
             listener,
+            gives_prompt,
             poll,
             events,
             waiting,
@@ -103,7 +102,7 @@ impl<R: Net + Clock> Network<R> {
     /// The next connection that is due.
     pub fn next(&mut self, rt: &R) -> Result<Connection<R::Stream>, Failed> {
         for _ in 0..u64::MAX {
-            if let Some(connection) = self.waiting.take_due() {
+            if let Some(connection) = self.waiting.take_due(self.now) {
                 return Ok(connection);
             }
             if self.has_newcomers {
@@ -111,6 +110,9 @@ impl<R: Net + Clock> Network<R> {
             }
             if !self.waiting.is_due() {
                 self.wait_on_all(rt, None, None)?;
+            } else if self.has_newcomers {
+                // More wait than were taken: those that were taken before have their turn too.
+                self.wait_on_all(rt, None, Some(0))?;
             }
         }
         Err(Failed)
@@ -237,7 +239,8 @@ impl<R: Net + Clock> Network<R> {
     /// Takes a newcomer in, unless an option can't be set on it. Where no place is free, the one that
     /// has been silent for the longest is closed.
     fn welcome(&mut self, stream: R::Stream) {
-        if stream.set_nodelay(true).is_err() || stream.set_nonblocking(true).is_err() {
+        let is_prompt = self.gives_prompt || stream.set_nodelay(true).is_ok();
+        if !is_prompt || stream.set_nonblocking(true).is_err() {
             return;
         }
         let place = match self.waiting.take_place() {

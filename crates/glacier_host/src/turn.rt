@@ -15,6 +15,10 @@ use glacier_http::{HeadStep, read_head};
 use std::net::Net;
 use std::time::Clock;
 
+/// How long a turn may last, in milliseconds, before others that are due have theirs between two of its
+/// messages.
+const MOST_TURN: u64 = 10;
+
 /// Waits inside a message until its client may have sent more. One that is too slow is a fault.
 fn wait_inside<R: Net + Clock>(
     rt: &R,
@@ -45,7 +49,9 @@ fn wait_to_send<R: Net + Clock>(
     connection: &mut Connection<R::Stream>,
     pace: &mut Pace,
 ) -> Result<(), Failed>
-    ensures { connection.new.stream ≡ connection.old.stream }
+    ensures stream { connection.new.stream ≡ connection.old.stream }
+    ensures held { connection.new.held ≡ connection.old.held }
+    ensures course { connection.new.course ≡ connection.old.course }
 {
     let now = network.read_clock(rt);
     if pace.is_too_slow(now, network.others_wait()) {
@@ -94,8 +100,28 @@ fn take_part<R: Net + Clock>(
     }
 }
 
-/// Between two messages: finds where the next begins, or reads, or waits. Where nothing of it is
-/// handed out and another waits, or it doesn't come for long, the connection is given back.
+/// Whether the turn goes on with its next message: it hasn't lasted for long, or no other is due, which
+/// is seen to then.
+fn goes_on<R: Net + Clock>(
+    rt: &R,
+    network: &mut Network<R>,
+    connection: &mut Connection<R::Stream>,
+) -> Result<bool, Failed>
+    ensures stream { connection.new.stream ≡ connection.old.stream }
+    ensures held { connection.new.held ≡ connection.old.held }
+    ensures course { connection.new.course ≡ connection.old.course }
+{
+    if network.now().saturating_sub(connection.turn_since) < MOST_TURN {
+        return Ok(true);
+    }
+    network.wait(rt, &mut connection.watch, 0)?;
+    connection.turn_since = network.now();
+    Ok(!network.others_wait())
+}
+
+/// Between two messages: finds where the next begins, or reads, or waits. Nothing of it is handed out
+/// yet, and the connection is given back where another is due and the next isn't there or the turn has
+/// lasted for long, or where the next doesn't come for long.
 fn find_next<R: Net + Clock>(
     rt: &R,
     network: &mut Network<R>,
@@ -107,7 +133,12 @@ fn find_next<R: Net + Clock>(
     ensures back { result ≡ Ok true → connection.new.course ≡ Between }
 {
     if connection.begins(network.head()) {
-        return Ok(false);
+        if goes_on(rt, network, connection)? {
+            return Ok(false);
+        }
+        connection.course = Course::Between;
+        connection.is_given_back = true;
+        return Ok(true);
     }
     if network.others_wait()
         || network.now().saturating_sub(connection.watch.last) >= MOST_SILENCE
@@ -188,6 +219,8 @@ fn send_once<R: Net + Clock>(
     ensures bound { IfOk result (λ count. count ≤ length bytes.now) }
     ensures bytes { WriteAppends (R.Stream.contents connection.old.stream)
         (R.Stream.contents connection.new.stream) result bytes.now }
+    ensures held { connection.new.held ≡ connection.old.held }
+    ensures course { connection.new.course ≡ connection.old.course }
 {
     let count = match send_now(&mut connection.stream, bytes) {
         Ok(count) => count,
@@ -203,7 +236,7 @@ fn send_once<R: Net + Clock>(
     }
 }
 
-/// Sends all bytes, or a first part of them and then answers `Failed`.
+/// Sends all bytes, or a first part of them and then answers `Failed`. Where in a message it is stays so.
 #[tactic(auto, using(crate::proofs::HeldLemmas::appends_whole))]
 pub fn send<R: Net + Clock>(
     rt: &R,
@@ -215,6 +248,8 @@ pub fn send<R: Net + Clock>(
         (R.Stream.contents connection.new.stream) bytes.now) }
     ensures part { OnErr result (AppendsPart (R.Stream.contents connection.old.stream)
         (R.Stream.contents connection.new.stream) bytes.now) }
+    ensures held { connection.new.held ≡ connection.old.held }
+    ensures course { connection.new.course ≡ connection.old.course }
 {
     let now = network.read_clock(rt);
     connection.watch.last = now;

@@ -66,11 +66,13 @@ impl<S: Read + OpenStream + AsRawFd + Drop> Waiting<S> {
         let _ = self.free.push(place);
     }
 
-    /// Takes the connection out that has been due for the longest.
-    pub fn take_due(&mut self) -> Option<Connection<S>> {
+    /// Takes the connection out that has been due for the longest: its turn begins.
+    pub fn take_due(&mut self, now: u64) -> Option<Connection<S>> {
         for _ in 0..MOST_HELD {
             let place = self.due.pop_front()?;
             if let Some(connection) = self.take(place) {
+                let mut connection = connection;
+                connection.turn_since = now;
                 return Some(connection);
             }
         }
