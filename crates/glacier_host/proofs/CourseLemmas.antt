@@ -1,13 +1,12 @@
 -- Places in a message: what none handed out leaves, and one stretch after another.
-use Rattle.std.specs.Prelude.{◌≡◌, ◌⊎◌, ℕ, zero, suc, ◌<◌, List, take, length, min, Option, Some, None, MatchOption}
-use Rattle.std.specs.Io.KnownBytes.{Consumes, IsAtEnd, Keeps}
+use Rattle.std.specs.Prelude.{◌≡◌, ◌⊎◌, ℕ, zero, suc, ◌<◌, List, take, Option, Some, MatchOption}
 use Rattle.std.proofs.Common.{refl, sym, ◌∙◌, ap, subst, inl, inr, arith}
 use Rattle.std.proofs.lemmas.Bool.Decides.{nat_tests}
 use Rattle.glacier_host.specs.Courses.{GoesOn, IsWhole, after, most_of}
 use Rattle.glacier_host.specs.Turns.{EndsTurn, MovesOn, Place, Rests}
 use Rattle.glacier_host.specs.declared.course.Course.{Course}
 use Rattle.glacier_host.specs.declared.course.Course.TheVariants.{Between, Inside, Rest}
-use Rattle.glacier_host.proofs.HeldLemmas.{keeps_then_takes, keeps_twice}
+use Rattle.glacier_host.proofs.HeldLemmas.{keeps_then_takes}
 
 -- where none are handed out the place stays, unless nothing of the message is left
 pub stays : (course : Course) → IsWhole course ⊎ (course ≡ after course 0)
