@@ -1,4 +1,5 @@
 pub mod BeginLemmas
+pub mod BoundLemmas
 pub mod Filled
 pub mod FolderLemmas
 pub mod Hashing

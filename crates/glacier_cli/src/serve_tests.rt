@@ -198,12 +198,6 @@ const OPTIONS: [(&str, &[&str], &str, &str); 8] = [
     ),
     ("--connections 1000000", &[], "served 0 connections\n", ""),
     ("--region us-east-1", &[PUT], "served 1 connections\n", MADE),
-    (
-        "--region eu-west-1",
-        &[PUT_IN_EUROPE],
-        "served 1 connections\n",
-        MADE,
-    ),
     ("--delay 0", &[], "served 0 connections\n", ""),
     ("--delay 31536000", &[], "served 0 connections\n", ""),
     (
