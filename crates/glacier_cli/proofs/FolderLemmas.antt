@@ -45,15 +45,16 @@ module _ (tells : Bool) {old mid : Told} (ring : List Entry) (words : ServeWords
 
   -- all that came
   pub serves_at : {new : Told} {config : Config} {after : Store} {count : ℕ} → config ≡ config_of ring words
-      → OpensAll (station_use tells old new) words → Serves config mid new store after count
+      → Kept mid store → OpensAll (station_use tells old new) words → Serves config mid new store after count
       → (count < words.connections → new.listener.to_come ≡ 0) → ServesAt (station_use tells old new) ring words count
-  serves_at {new = new} {after = after} {count = count} is opens given fewer =
+  serves_at {new = new} {after = after} {count = count} is begun opens given fewer =
       let s = subst (λ (c : Config). Serves c mid new store after count) is given in
       record {
         opens = opens;
         store = store;
         starts = starts;
         after = after;
+        kept = s.does.kept begun;
         came = s.came;
         sessions = s.sessions;
         comes = comes_from s.comes;

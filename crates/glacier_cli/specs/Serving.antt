@@ -8,7 +8,7 @@ use Rattle.glacier_server.specs.declared.end.ServeFault.{ServeFault}
 use Rattle.glacier_server.specs.Acts.{StopsAfter}
 use Rattle.glacier_server.specs.Serving.{Comes, ServedAll, ServedTill, BreaksLast, acts_of}
 use Rattle.glacier_server.specs.Session.{Session}
-use Rattle.glacier_store.specs.Stands.{Stands}
+use Rattle.glacier_store.specs.Stands.{Stands, Kept}
 use Rattle.glacier_store.specs.State.{State}
 use Rattle.glacier_store.specs.declared.store.Store.{Store}
 use Rattle.glacier_cli.specs.Beginning.{IsInOrder, StartsFrom, Starts}
@@ -16,12 +16,14 @@ use Rattle.glacier_cli.specs.Forms.{ServeWords}
 use Rattle.glacier_cli.specs.StationUse.{StationUse, NoneCame, OpensAll, OpensAtMost, config_of}
 
 -- so many connections came to this address, and were served for the accounts of a ring, from a store on that was made or
--- opened in this folder; fewer than the most only where none is left to come
+-- opened in this folder; fewer than the most only where none is left to come, and the folder keeps the store as it is
+-- after them
 pub record ServesAt (station : StationUse) (ring : List Entry) (words : ServeWords) (count : ℕ) : Type 0 where
   pub opens : OpensAll station words
   pub store : Store
   pub starts : Starts words.is_new station.before.reads store
   pub after : Store
+  pub kept : Kept station.after after
   pub came : List Connection
   pub sessions : List Session
   pub comes : Comes station.before station.after came sessions

@@ -49,17 +49,25 @@ module _ (config : Config) (s t : Session) (from : Standing) (so_far : SoFar con
       (told_events config from.count t.before.accounts a.message a.reading
       ∙ ap (λ (k : Store). happened config k.accounts a.message a.reading) starts)
 
+  -- so there is more room with the message than without it, where it has some
+  more : 0 < room_of (happened config from.store.accounts a.message a.reading)
+      → room_of (events_in (out config 0 s.before.accounts so_far.messages (s.readings ++ t.readings)))
+      < room_of (events_in (out config 0 s.before.accounts (so_far.messages ++ a.message ∷ []) (s.readings ++ t.readings)))
+  more some = omega (arith, some, room_is, ap (λ (l : List Act). room_of (events_in l)) before_it)
+
   no_room : (end : ℕ) → bytes_of t.acts ≡ interim a.message → Grew s.before s.after s.acts
       → end ≡ from.store.journal.length
       → 2 ^ 62 < end + room_of (happened config from.store.accounts a.message a.reading)
+      → 0 < room_of (happened config from.store.accounts a.message a.reading)
       → NoRoomForLast config (joined s t) (breaks config s t from so_far starts left coming a after_is).1 end
   unfolding breaks no_reply
-  no_room end silent grew at full =
+  no_room end silent grew at full some =
       let here : end ≡ s.before.journal.length + room_of (events_in s.acts) =
       at ∙ ap (λ (k : Store). k.journal.length) so_far.store ∙ grew in record {
         unanswered = no_reply silent;
         at = here ∙ ap (λ (l : List Act). s.before.journal.length + room_of (events_in l)) (sym before_it);
         full = over (2 ^ 62) here full;
+        grows = more some;
       }
     where
       over : (most : ℕ) → end ≡ s.before.journal.length + room_of (events_in s.acts)
@@ -76,5 +84,5 @@ module _ (config : Config) (s t : Session) (from : Standing) (so_far : SoFar con
   broken_by Memory grew none = λ front m is.
       ap (λ (l : List Act). s.acts ++ l) none ∙ append-nil s.acts
       ∙ sym (out_before config s t from so_far starts a.message front m is)
-  broken_by (JournalEnd end) grew (silent, at, full) = no_room end silent grew at full
+  broken_by (JournalEnd end) grew (silent, at, full, some) = no_room end silent grew at full some
   broken_by Accept grew never = absurd never

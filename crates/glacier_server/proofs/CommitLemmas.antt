@@ -59,7 +59,7 @@ module _ (config : Config) (store : Store) (m : Message) (r : ℕ) (close : Bool
     broke Disk is x = behind Disk x (λ acts silent. silent)
     broke Memory is x = (0, store, keeps_none law alone store (λ kept. x.memory kept refl), refl)
     broke (JournalEnd length) is x =
-        let end = x.end length refl in behind (JournalEnd length) x (λ acts silent. (silent, end.0, end.1))
+        let end = x.end length refl in behind (JournalEnd length) x (λ acts silent. (silent, end.0, end.1, end.2))
     broke Accept is x = absurd is
 
   module _ {old mid now : Told} (after : Store)

@@ -1,5 +1,5 @@
 -- The two calls of the store for a request: time passes, and then its action is done.
-use Rattle.std.proofs.Common.{◌≡◌, ◌⊎◌, inl, ⊎_elim, ℕ, ◌+◌, ◌^◌, ◌<◌, List, [], Ok, Err, refl, sym, ap, subst, ◌∙◌, arith}
+use Rattle.std.proofs.Common.{◌≡◌, ◌⊎◌, inl, ⊎_elim, ℕ, ◌+◌, ◌^◌, ◌<◌, List, Ok, Err, refl, sym, ap, subst, ◌∙◌, arith}
 use Rattle.glacier_disk.specs.Moments.{joined, weaker}
 use Rattle.glacier_disk.specs.Told.{Told}
 use Rattle.glacier_machine.specs.declared.action.Request.{Request}
@@ -53,7 +53,7 @@ module _ {T : Type 0} {old new : Told} (store : Store) (events : List AccountEve
   broken : (Kept old store → Changes old new store.accounts (after_all store.accounts events))
       → (fault ≡ store_fault.Memory → Kept old store → Stays old new store.accounts)
       → ((length : ℕ) → fault ≡ store_fault.End length
-      → (length ≡ store.journal.length) × (2 ^ 62 < length + room_of events))
+      → (length ≡ store.journal.length) × (2 ^ 62 < length + room_of events) × (0 < room_of events))
       → KeepsEvents {T = T} old new store events (Err other)
   broken changes stays full = record {
     accounts = tt;
@@ -69,9 +69,6 @@ stays : {old new : Told} (state : State) → Changes old new state state → Sta
 stays {old = old} {new = new} state changes =
     weaker old new (λ i. Stands i state ⊎ Stands i state) (λ i. Stands i state) changes (λ i p. ⊎_elim (λ s. s) (λ s. s) p)
 
-over : (most at : ℕ) (events : List AccountEvent) → most < at + room_of [] → most < at + room_of events
-over most at events full = omega (arith, full)
-
 module _ {U : Type 0} {old mid : Told} (store : Store) where
   -- time didn't pass for a fault
   pub pass_broken : {T : Type 0} (events : List AccountEvent) (fault : StoreFault) (other : ServeFault) → IsFault fault other
@@ -83,7 +80,7 @@ module _ {U : Type 0} {old mid : Told} (store : Store) where
       (λ kept. weaker old mid (λ i. Stands i store.accounts) (λ i. Stands i store.accounts
       ⊎ Stands i (after_all store.accounts events)) (stays store.accounts (commits.any_moment kept)) (λ i s. inl s))
       (λ same kept. commits.memory kept (ap Err same))
-      (λ length same. let end = grows.end length (ap Err same) in (end.0, over (2 ^ 62) length events end.1))
+      (λ length same. let some : 0 < 0 = grows.some length (ap Err same) in absurd (omega (arith, some)))
 
   -- it did, without an event, and then the action was done, or not for a fault
   module _ (one : Store) {new : Told} {x : U} (same : one.accounts ≡ store.accounts)
@@ -121,4 +118,8 @@ module _ {U : Type 0} {old mid : Told} (store : Store) where
         (λ at kept. joined {old = old} {mid = mid} {new = new} (λ i. Stands i store.accounts) (λ i. Stands i store.accounts)
         (stays store.accounts (passed.any_moment kept))
         (subst (λ (s : State). Stays mid new s) same (commits.memory (passed.kept kept) (ap Err at))) (λ i p. p))
-        (λ length at. let end = grows.end length (ap Err at) in (omega (arith, end.0, grew), end.1))
+        (λ length at. let end = grows.end length (ap Err at) in (
+          omega (arith, end.0, grew),
+          end.1,
+          grows.some length (ap Err at),
+        ))

@@ -31,13 +31,15 @@ ShowsDisk (Ok x) old new = new.disk_faults ≡ old.disk_faults
 ShowsDisk (Err fault) old new = HasBroken fault old new
 
 -- what was done for a message at a reading, from this store, before the server broke off: nothing for want of memory,
--- and else no byte of its reply was sent; the journal was at its end where the message's events have no room
+-- and else no byte of its reply was sent; the journal was at its end where the message has events, and they have no
+-- room
 abbrev pub BrokenFor : Config → Store → Message → ℕ → List Act → ServeFault → Type 0
 BrokenFor config store m reading acts Disk = bytes_of acts ≡ interim m
 BrokenFor config store m reading acts Memory = acts ≡ []
 BrokenFor config store m reading acts (JournalEnd length) = (bytes_of acts ≡ interim m)
     × (length ≡ store.journal.length)
     × (2 ^ 62 < length + room_of (happened config store.accounts m reading))
+    × (0 < room_of (happened config store.accounts m reading))
 BrokenFor config store m reading acts Accept = ⊥
 
 -- they took the message that stands there, and the server broke off before its reply
@@ -62,13 +64,16 @@ pub record NoReplyToLast (config : Config) (s : Session) (part : AnsweredPart co
   pub messages : part.messages ≡ front ++ last ∷ []
   pub silent : bytes_of s.acts ≡ bytes_of (out config 0 s.before.accounts front s.readings) ++ interim last
 
--- nor has the journal, of this length behind the events of the messages before it, room for its events
+-- nor has the journal, of this length behind the events of the messages before it, room for its events, of which there
+-- are some
 pub record NoRoomForLast (config : Config) (s : Session) (part : AnsweredPart config s) (end : ℕ) : Type 0 where
   pub unanswered : NoReplyToLast config s part
   pub at : end ≡ s.before.journal.length
       + room_of (events_in (out config 0 s.before.accounts unanswered.front s.readings))
   pub full : 2 ^ 62 < s.before.journal.length
       + room_of (events_in (out config 0 s.before.accounts part.messages s.readings))
+  pub grows : room_of (events_in (out config 0 s.before.accounts unanswered.front s.readings))
+      < room_of (events_in (out config 0 s.before.accounts part.messages s.readings))
 
 -- what was done for it, and why, before the server broke off
 abbrev pub BrokenBy : (config : Config) (s : Session) → AnsweredPart config s → ServeFault → Type 0

@@ -28,7 +28,7 @@ IsFault (store.NotEmpty area size) fault = ⊥
 IsFault (store.End length) fault = fault ≡ JournalEnd length
 
 -- The events are kept, or the server breaks off. A crash meanwhile leaves the state before them or after them, and for
--- want of memory the one before them; the journal was at its end where they have no room.
+-- want of memory the one before them; the journal was at its end where there are some and they have no room.
 pub record KeepsEvents {T : Type 0} (old new : Told) (store : Store) (events : List AccountEvent)
     (result : Result (T × Store) ServeFault) : Type 0 where
   pub accounts : IfOk result (λ done. done.1.accounts ≡ after_all store.accounts events)
@@ -37,4 +37,4 @@ pub record KeepsEvents {T : Type 0} (old new : Told) (store : Store) (events : L
   pub kept : Kept old store → IfOk result (λ done. Kept new done.1)
   pub memory : Kept old store → IsErrOf result Memory → Stays old new store.accounts
   pub end : (length : ℕ) → IsErrOf result (JournalEnd length)
-      → (length ≡ store.journal.length) × (2 ^ 62 < length + room_of events)
+      → (length ≡ store.journal.length) × (2 ^ 62 < length + room_of events) × (0 < room_of events)

@@ -39,7 +39,7 @@ returns-in-Ok-serve-clause-ends g c =
         listener = shows.0 ∙ faults ∙ ap (λ (l : Listener). l.faults) alone.listener;
       },
       λ t. serves_at g.S.Disk.tells c.args.ring words c.in-Ok.store (before t) (c.in-Ok.ensures.begins t).starts c.config_of.ensures
-          (opens t) (c.in-Ok-serve.ensures.served t) (c.in-Ok-serve.ensures.fewer t),
+          (still_kept call.disk.rests.crash (c.in-Ok.ensures.begins t).kept) (opens t) (c.in-Ok-serve.ensures.served t) (c.in-Ok-serve.ensures.fewer t),
     )
 
 pub returns-in-Ok-serve-clause-headline : goal.returns-in-Ok-serve-clause-headline
