@@ -4,7 +4,7 @@ ghost use Rattle.glacier_cli.specs.FileUse.{KeepsContents, file_use};
 ghost use Rattle.glacier_cli.specs.Program.{FolderEnds, HeadlineOf, ServeEnds, of_server};
 ghost use Rattle.glacier_cli.specs.Serving.{Headline};
 ghost use Rattle.glacier_cli.specs.Forms.{serve_words};
-ghost use Rattle.glacier_cli.specs.StationUse.{config_of, station_use};
+ghost use Rattle.glacier_cli.specs.StationUse.{config_of, delays_of, station_use};
 
 use crate::begin::begin;
 use crate::command::Serving;
@@ -16,19 +16,25 @@ use glacier_server::{Config, ServeFault, serve};
 use glacier_sigv4::KeyRing;
 use std::alloc::Global;
 
-/// What a server is told for the accounts of this ring: its region, and one delay for all tiers, or
-/// the delays of Amazon's tiers where none is named.
+/// How many seconds retrieval jobs take, by their tier: as many as are named, or else what Amazon's
+/// tiers take at most.
+fn delays_of(delay: Option<u32>) -> [u32; 3]
+    ensures { result ≡ delays_of delay }
+{
+    match delay {
+        Some(delay) => [delay, delay, delay],
+        None => [300, 14_400, 28_800],
+    }
+}
+
+/// What a server is told for the accounts of this ring.
 fn config_of(ring: KeyRing, serving: &Serving) -> Config
     ensures { result ≡ config_of ring (serve_words serving.now) }
 {
-    let delays = match serving.delay {
-        Some(delay) => [delay; 3],
-        None => [300, 14_400, 28_800],
-    };
     Config {
         region: serving.region,
         ring,
-        delays,
+        delays: delays_of(serving.delay),
     }
 }
 

@@ -175,7 +175,7 @@ fn other_words_are_no_form(rt: HostRuntime) {
     }
 }
 
-// Signed for the region eu-west-1.
+// Signed for the region eu-west-1, by the function that made those above.
 const PUT_IN_EUROPE: &str = "PUT /-/vaults/examplevault HTTP/1.1\r\n\
     host: 127.0.0.1:8080\r\n\
     x-amz-date: 20120525T002453Z\r\n\

@@ -3,9 +3,6 @@ use Rattle.std.specs.Prelude.{string_bytes}
 use Rattle.glacier_cli.proofs.BoundLemmas.{in_bounds}
 use Rattle.glacier_cli.proofs.command.Command.of.Goals as goal
 
-pub returns-in-default-clause-bounds : goal.returns-in-default-clause-bounds
-returns-in-default-clause-bounds c = in_bounds (map string_bytes c.args.words.now)
-
 pub returns-in-len1-clause-bounds : goal.returns-in-len1-clause-bounds
 returns-in-len1-clause-bounds c = in_bounds (map string_bytes c.args.words.now)
 
