@@ -34,7 +34,7 @@ account_is word account is = go (bytes_eq word (codes "-")) refl (is_account wor
         subst (λ a. (word ≡ account_word a) × IsAccount a) same (refl, r)
 
 -- the pieces of a path that begins with `/ACCOUNT/vaults`
-vaults_is : (ps : List (List ℕ)) (path : Option (List ℕ) × List (List ℕ)) → vaults_path ps ≡ Some path
+pub vaults_is : (ps : List (List ℕ)) (path : Option (List ℕ) × List (List ℕ)) → vaults_path ps ≡ Some path
     → (ps ≡ [] ∷ account_word path.0 ∷ codes "vaults" ∷ path.1) × IsAccount path.0
 vaults_is [] path is = cc
 vaults_is ((b ∷ first) ∷ ps) path is = cc

@@ -11,7 +11,7 @@ use Rattle.glacier_base.proofs.DigitLemmas.{decimals-number_of}
 use Rattle.glacier_base.proofs.IdLemmas.{letter_of-kind_of}
 use Rattle.glacier_requests.specs.Ids.{is_of_kind, id_number}
 use Rattle.glacier_requests.specs.Paths.{Piece, name, word, id, archives, uploads, jobs, lock_policy, row, piece_text, ArePieces}
-use Rattle.glacier_requests.specs.Places.{method_of, op_at, id_kind_of, collection_of, member_of, output_of, with_id, place_behind}
+use Rattle.glacier_requests.specs.Places.{method_of, op_at, id_kind_of, places_of, output_of, place_behind}
 use Rattle.glacier_requests.specs.Routes.{op_on, number_of}
 use Rattle.glacier_requests.specs.declared.places.Method.{Method}
 use Rattle.glacier_requests.specs.declared.places.Method.TheVariants.{Get, Put, Post, Delete}
@@ -60,22 +60,18 @@ place_words at.Output text = codes "jobs" ∷ text ∷ codes "output" ∷ []
 place_words at.LockPolicy text = codes "lock-policy" ∷ []
 place_words at.Lock text = codes "lock-policy" ∷ text ∷ []
 
-collection_words : (one : List ℕ) (place : Place) → collection_of one ≡ Some place → one ∷ [] ≡ place_words place []
-collection_words one =
-    let Holds : Place → Type 0 = λ place. one ∷ [] ≡ place_words place [] in
-    first_or Holds one (codes "archives") at.Archives _ (λ e. ap (λ w. w ∷ []) e)
-    (first_or Holds one (codes "multipart-uploads") at.Uploads _ (λ e. ap (λ w. w ∷ []) e)
-    (first_or Holds one (codes "jobs") at.Jobs _ (λ e. ap (λ w. w ∷ []) e)
-    (first_or Holds one (codes "lock-policy") at.LockPolicy _ (λ e. ap (λ w. w ∷ []) e)
-    (nothing Holds one))))
-
-member_words : (one text : List ℕ) (place : Place) → member_of one ≡ Some place → one ∷ text ∷ [] ≡ place_words place text
-member_words one text =
-    let Holds : Place → Type 0 = λ place. one ∷ text ∷ [] ≡ place_words place text in
-    first_or Holds one (codes "archives") at.Archive _ (λ e. ap (λ w. w ∷ text ∷ []) e)
-    (first_or Holds one (codes "multipart-uploads") at.Upload _ (λ e. ap (λ w. w ∷ text ∷ []) e)
-    (first_or Holds one (codes "jobs") at.Job _ (λ e. ap (λ w. w ∷ text ∷ []) e)
-    (first_or Holds one (codes "lock-policy") at.Lock _ (λ e. ap (λ w. w ∷ text ∷ []) e)
+word_places : (one : List ℕ) (places : Place × Place) → places_of one ≡ Some places
+    → (one ∷ [] ≡ place_words places.0 []) × ((text : List ℕ) → one ∷ text ∷ [] ≡ place_words places.1 text)
+word_places one =
+    let Holds : Place × Place → Type 0 =
+    λ places. (one ∷ [] ≡ place_words places.0 []) × ((text : List ℕ) → one ∷ text ∷ [] ≡ place_words places.1 text) in
+    first_or Holds one (codes "archives") (at.Archives, at.Archive) _
+    (λ e. (ap (λ w. w ∷ []) e, λ text. ap (λ w. w ∷ text ∷ []) e))
+    (first_or Holds one (codes "multipart-uploads") (at.Uploads, at.Upload) _
+    (λ e. (ap (λ w. w ∷ []) e, λ text. ap (λ w. w ∷ text ∷ []) e))
+    (first_or Holds one (codes "jobs") (at.Jobs, at.Job) _ (λ e. (ap (λ w. w ∷ []) e, λ text. ap (λ w. w ∷ text ∷ []) e))
+    (first_or Holds one (codes "lock-policy") (at.LockPolicy, at.Lock) _
+    (λ e. (ap (λ w. w ∷ []) e, λ text. ap (λ w. w ∷ text ∷ []) e))
     (nothing Holds one))))
 
 output_words : (one text last : List ℕ) (place : Place) → output_of one last ≡ Some place
@@ -97,22 +93,33 @@ pub words_of_place : (behind : List (List ℕ)) (spot : Place × List ℕ) → p
     → behind ≡ place_words spot.0 spot.1
 words_of_place behind spot is = go behind is
   where
-    with_place : (ws : List (List ℕ)) (text : List ℕ) (found : Option Place)
-        → ((place : Place) → found ≡ Some place → ws ≡ place_words place text)
-        → with_id text found ≡ Some spot → ws ≡ place_words spot.0 spot.1
-    with_place ws text None words is = cc
-    with_place ws text (Some place) words is =
-        let same : (place, text) ≡ spot = cc in
-        words place refl ∙ ap (λ (s : Place × List ℕ). place_words s.0 s.1) same
+    here : (ws : List (List ℕ)) (found : Place × List ℕ) → ws ≡ place_words found.0 found.1 → Some found ≡ Some spot
+        → ws ≡ place_words spot.0 spot.1
+    here ws found words is =
+        let same : found ≡ spot = cc in
+        words ∙ ap (λ (s : Place × List ℕ). place_words s.0 s.1) same
+
+    alone : (one : List ℕ) (places : Option (Place × Place)) → places_of one ≡ places
+        → option_map (λ places. (places.0, [])) places ≡ Some spot → one ∷ [] ≡ place_words spot.0 spot.1
+    alone one None p is = cc
+    alone one (Some places) p is = here (one ∷ []) (places.0, []) (word_places one places p).0 is
+
+    with_id : (one text : List ℕ) (places : Option (Place × Place)) → places_of one ≡ places
+        → option_map (λ places. (places.1, text)) places ≡ Some spot → one ∷ text ∷ [] ≡ place_words spot.0 spot.1
+    with_id one text None p is = cc
+    with_id one text (Some places) p is = here (one ∷ text ∷ []) (places.1, text) ((word_places one places p).1 text) is
+
+    with_last : (one text last : List ℕ) (place : Option Place) → output_of one last ≡ place
+        → option_map (λ place. (place, text)) place ≡ Some spot → one ∷ text ∷ last ∷ [] ≡ place_words spot.0 spot.1
+    with_last one text last None p is = cc
+    with_last one text last (Some place) p is =
+        here (one ∷ text ∷ last ∷ []) (place, text) (output_words one text last place p) is
 
     go : (ws : List (List ℕ)) → place_behind ws ≡ Some spot → ws ≡ place_words spot.0 spot.1
-    go [] is =
-        let same : (at.Vault, []) ≡ spot = cc in
-        ap (λ (s : Place × List ℕ). place_words s.0 s.1) same
-    go (one ∷ []) is = with_place (one ∷ []) [] (collection_of one) (collection_words one) is
-    go (one ∷ text ∷ []) is = with_place (one ∷ text ∷ []) text (member_of one) (member_words one text) is
-    go (one ∷ text ∷ last ∷ []) is =
-        with_place (one ∷ text ∷ last ∷ []) text (output_of one last) (output_words one text last) is
+    go [] is = here [] (at.Vault, []) refl is
+    go (one ∷ []) is = alone one (places_of one) refl is
+    go (one ∷ text ∷ []) is = with_id one text (places_of one) refl is
+    go (one ∷ text ∷ last ∷ []) is = with_last one text last (output_of one last) refl is
     go (one ∷ text ∷ last ∷ more ∷ rest) is = cc
 
 number_fits : (digits : List ℕ) (n : ℕ) → twenty_digits 20 digits ≡ Some n → n < 2 ^ 64

@@ -53,7 +53,7 @@ module _ (account : Option (List ℕ)) where
   route_to op = found.Route (record { account = account; op = op })
 
   -- a path in the account is routed behind `vaults`
-  behind_vaults : (method : Method) (behind : List (List ℕ)) → IsAccount account
+  pub behind_vaults : (method : Method) (behind : List (List ℕ)) → IsAccount account
       → path_route (Some method) (vaults_path ([] ∷ account_word account ∷ codes "vaults" ∷ behind))
       ≡ account_route method account behind
   behind_vaults method behind is =

@@ -1,8 +1,10 @@
 pub mod Ids
 pub mod JobBodies
 pub mod Members
+pub mod Parts
 pub mod Paths
 pub mod Places
+pub mod Queries
 pub mod Ranges
 pub mod Reads
 pub mod Routes

@@ -5,6 +5,7 @@ use Rattle.glacier_base.specs.Names.{is_account, is_vault_name}
 use Rattle.glacier_base.specs.declared.id.IdKind.{IdKind}
 use Rattle.glacier_base.specs.declared.id.IdKind.TheVariants.{Archive, Upload as Uploading, Job, Lock}
 use Rattle.glacier_http.specs.View.{HeadText}
+use Rattle.glacier_requests.specs.Ids.{id_number}
 use Rattle.glacier_requests.specs.Routes.{pieces}
 use Rattle.glacier_requests.specs.declared.routes.Op.{Op}
 use Rattle.glacier_requests.specs.declared.routes.Op.TheVariants.{ListVaults, CreateVault, DescribeVault, DeleteVault, Upload, DeleteArchive, BeginUpload, ListUploads, Part, ListParts, CompleteUpload, AbortUpload, BeginJob, ListJobs, DescribeJob, JobOutput, InitiateLock, ShowLock, CompleteLock, AbortLock}
@@ -86,3 +87,33 @@ pub record AsksFor (head : HeadText) (route : Route) : Type 0 where
   pub path : pieces head.path ≡ path_of route
   pub account : IsAccount route.account
   pub names : ArePieces (row route.op).1
+
+-- the text of a piece, with this text in the place of an id
+abbrev pub text_with : List ℕ → Piece → List ℕ
+text_with text (name vault) = vault
+text_with text (word said) = said
+text_with text (id kind number) = text
+
+-- the head has the method and the path of the route's operation, with a name that may be bad, and any text for the id
+pub record LooksFor (head : HeadText) (route : Route) (text : List ℕ) : Type 0 where
+  pub method : head.method ≡ (row route.op).0
+  pub path : pieces head.path
+      ≡ [] ∷ account_word route.account ∷ codes "vaults" ∷ map (text_with text) (row route.op).1
+  pub account : IsAccount route.account
+
+-- the pieces begin with a vault's name, which breaks the rule
+abbrev pub IsBadName : List Piece → Type 0
+IsBadName (name vault ∷ more) = ¬ IsTrue (is_vault_name vault)
+IsBadName _ = ⊥
+
+-- they begin with a vault's name, which keeps it
+abbrev pub IsGoodName : List Piece → Type 0
+IsGoodName (name vault ∷ more) = IsTrue (is_vault_name vault)
+IsGoodName _ = ⊥
+
+-- there is an id among the pieces, and the text is none of its kind
+abbrev pub IsBadId : List ℕ → List Piece → Type 0
+IsBadId text [] = ⊥
+IsBadId text (id kind number ∷ more) = id_number kind text ≡ None
+IsBadId text (name vault ∷ more) = IsBadId text more
+IsBadId text (word said ∷ more) = IsBadId text more

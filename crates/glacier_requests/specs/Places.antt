@@ -49,22 +49,13 @@ id_kind_of at.Output = Some kind.Job
 id_kind_of at.Lock = Some kind.Lock
 id_kind_of _ = None
 
--- the place of one word behind a vault's name
-abbrev pub collection_of : List ℕ → Option Place
-collection_of word =
-    if bytes_eq word (codes "archives") then Some at.Archives
-    else if bytes_eq word (codes "multipart-uploads") then Some at.Uploads
-    else if bytes_eq word (codes "jobs") then Some at.Jobs
-    else if bytes_eq word (codes "lock-policy") then Some at.LockPolicy
-    else None
-
--- the place of a word and an id
-abbrev pub member_of : List ℕ → Option Place
-member_of word =
-    if bytes_eq word (codes "archives") then Some at.Archive
-    else if bytes_eq word (codes "multipart-uploads") then Some at.Upload
-    else if bytes_eq word (codes "jobs") then Some at.Job
-    else if bytes_eq word (codes "lock-policy") then Some at.Lock
+-- what a word behind a vault's name stands for: alone, and with an id behind it
+abbrev pub places_of : List ℕ → Option (Place × Place)
+places_of word =
+    if bytes_eq word (codes "archives") then Some (at.Archives, at.Archive)
+    else if bytes_eq word (codes "multipart-uploads") then Some (at.Uploads, at.Upload)
+    else if bytes_eq word (codes "jobs") then Some (at.Jobs, at.Job)
+    else if bytes_eq word (codes "lock-policy") then Some (at.LockPolicy, at.Lock)
     else None
 
 -- a word, an id and a last word are the output of a job
@@ -72,14 +63,10 @@ abbrev pub output_of : List ℕ → List ℕ → Option Place
 output_of word last =
     if bytes_eq word (codes "jobs") && bytes_eq last (codes "output") then Some at.Output else None
 
--- a place with the text of an id
-abbrev pub with_id : List ℕ → Option Place → Option (Place × List ℕ)
-with_id id place = option_map (λ p. (p, id)) place
-
 -- the place that the pieces behind a vault's name are, and the text of the id among them: empty where there is none
 abbrev pub place_behind : List (List ℕ) → Option (Place × List ℕ)
 place_behind [] = Some (at.Vault, [])
-place_behind (word ∷ []) = with_id [] (collection_of word)
-place_behind (word ∷ id ∷ []) = with_id id (member_of word)
-place_behind (word ∷ id ∷ last ∷ []) = with_id id (output_of word last)
+place_behind (word ∷ []) = option_map (λ places. (places.0, [])) (places_of word)
+place_behind (word ∷ id ∷ []) = option_map (λ places. (places.1, id)) (places_of word)
+place_behind (word ∷ id ∷ last ∷ []) = option_map (λ place. (place, id)) (output_of word last)
 place_behind (word ∷ id ∷ last ∷ piece ∷ more) = None

@@ -10,6 +10,12 @@ Reads defined (Ok value) = defined ≡ Ok value
 Reads defined (Err (Refused refusal)) = defined ≡ Err refusal
 Reads defined (Err Memory) = ⊤
 
+-- the same of a value as contracts see it
+abbrev pub ReadsAs : {A B : Type 0} → (A → B) → Result B Refusal → Result A Unread → Type 0
+ReadsAs shown defined (Ok value) = defined ≡ Ok (shown value)
+ReadsAs shown defined (Err (Refused refusal)) = defined ≡ Err refusal
+ReadsAs shown defined (Err Memory) = ⊤
+
 -- it is this refusal, unless memory was wanting
 abbrev pub Refuses : Refusal → Unread → Type 0
 Refuses refusal (Refused given) = given ≡ refusal

@@ -1,14 +1,17 @@
 // The members of the body of a new job.
 ghost use Rattle.std.specs.Prelude.{◌≡◌, option_map};
 ghost use Rattle.serde_json.specs.View.{view};
+ghost use Rattle.glacier_base.specs.declared.id.IdKind.TheVariants.{Archive as archive_id};
+ghost use Rattle.glacier_requests.specs.Ids.{id_number};
 ghost use Rattle.glacier_requests.specs.JobBodies.{type_named, tier_named, is_csv_named, type_in, description_in, tier_in, archive_in, range_in, is_csv_in, kind_in, unless_there, unoffered_names, job_in, job_body_of};
 ghost use Rattle.glacier_requests.specs.Reads.{Reads};
 
 use crate::ids::id_number;
 use crate::jobs::{JobBody, JobKind};
-use crate::members::{object_of, present};
+use crate::members::{object_of, present, text_of};
 use crate::naming::{bad_member, missing_member, not_offered};
-use crate::range::range_of;
+use crate::ranges::range_of;
+use crate::same::is_same;
 use crate::unread::Unread;
 use crate::uploads::no_description;
 use glacier_base::{Description, IdKind};
@@ -23,26 +26,26 @@ pub(crate) enum JobType {
     Inventory,
 }
 
-fn type_named(text: &str) -> Option<JobType>
+fn type_named(text: &[u8]) -> Option<JobType>
     ensures { result ≡ type_named text.now }
 {
-    if text == "archive-retrieval" {
+    if is_same(text, b"archive-retrieval") {
         Some(JobType::Retrieval)
-    } else if text == "inventory-retrieval" {
+    } else if is_same(text, b"inventory-retrieval") {
         Some(JobType::Inventory)
     } else {
         None
     }
 }
 
-fn tier_named(text: &str) -> Option<Tier>
+fn tier_named(text: &[u8]) -> Option<Tier>
     ensures { result ≡ tier_named text.now }
 {
-    if text == "Expedited" {
+    if is_same(text, b"Expedited") {
         Some(Tier::Expedited)
-    } else if text == "Standard" {
+    } else if is_same(text, b"Standard") {
         Some(Tier::Standard)
-    } else if text == "Bulk" {
+    } else if is_same(text, b"Bulk") {
         Some(Tier::Bulk)
     } else {
         None
@@ -50,16 +53,22 @@ fn tier_named(text: &str) -> Option<Tier>
 }
 
 /// Whether a format is CSV, or None where it is no format.
-fn is_csv_named(text: &str) -> Option<bool>
+fn is_csv_named(text: &[u8]) -> Option<bool>
     ensures { result ≡ is_csv_named text.now }
 {
-    if text == "JSON" {
+    if is_same(text, b"JSON") {
         Some(false)
-    } else if text == "CSV" {
+    } else if is_same(text, b"CSV") {
         Some(true)
     } else {
         None
     }
+}
+
+fn archive_number(text: &[u8]) -> Option<u64>
+    ensures { result ≡ id_number archive_id text.now }
+{
+    id_number(IdKind::Archive, text)
 }
 
 fn type_in(alloc: Global, body: &Value) -> Result<JobType, Unread>
@@ -68,11 +77,8 @@ fn type_in(alloc: Global, body: &Value) -> Result<JobType, Unread>
     let Some(member) = present(body, "Type") else {
         return Err(missing_member(alloc, "Type"));
     };
-    match member.as_str() {
-        Some(text) => match type_named(text) {
-            Some(job_type) => Ok(job_type),
-            None => Err(Unread::Refused(Refusal::BadType)),
-        },
+    match text_of(member).and_then(type_named) {
+        Some(job_type) => Ok(job_type),
         None => Err(Unread::Refused(Refusal::BadType)),
     }
 }
@@ -102,11 +108,8 @@ fn description_in(alloc: Global, body: &Value) -> Result<Description, Unread>
     let Some(member) = present(body, "Description") else {
         return Ok(no_description());
     };
-    match member.as_str() {
-        Some(text) => match Description::parse(text.as_bytes()) {
-            Some(description) => Ok(description),
-            None => Err(bad_member(alloc, "Description")),
-        },
+    match text_of(member).and_then(Description::parse) {
+        Some(description) => Ok(description),
         None => Err(bad_member(alloc, "Description")),
     }
 }
@@ -117,11 +120,8 @@ fn tier_in(alloc: Global, body: &Value) -> Result<Tier, Unread>
     let Some(member) = present(body, "Tier") else {
         return Ok(Tier::Standard);
     };
-    match member.as_str() {
-        Some(text) => match tier_named(text) {
-            Some(tier) => Ok(tier),
-            None => Err(bad_member(alloc, "Tier")),
-        },
+    match text_of(member).and_then(tier_named) {
+        Some(tier) => Ok(tier),
         None => Err(bad_member(alloc, "Tier")),
     }
 }
@@ -132,11 +132,8 @@ fn archive_in(alloc: Global, body: &Value) -> Result<u64, Unread>
     let Some(member) = present(body, "ArchiveId") else {
         return Err(missing_member(alloc, "ArchiveId"));
     };
-    match member.as_str() {
-        Some(text) => match id_number(IdKind::Archive, text.as_bytes()) {
-            Some(archive) => Ok(archive),
-            None => Err(bad_member(alloc, "ArchiveId")),
-        },
+    match text_of(member).and_then(archive_number) {
+        Some(archive) => Ok(archive),
         None => Err(bad_member(alloc, "ArchiveId")),
     }
 }
@@ -147,11 +144,8 @@ fn range_in(alloc: Global, body: &Value) -> Result<Option<(u64, u64)>, Unread>
     let Some(member) = present(body, "RetrievalByteRange") else {
         return Ok(None);
     };
-    match member.as_str() {
-        Some(text) => match range_of(text.as_bytes()) {
-            Some(range) => Ok(Some(range)),
-            None => Err(bad_member(alloc, "RetrievalByteRange")),
-        },
+    match text_of(member).and_then(range_of) {
+        Some(range) => Ok(Some(range)),
         None => Err(bad_member(alloc, "RetrievalByteRange")),
     }
 }
@@ -162,11 +156,8 @@ fn is_csv_in(alloc: Global, body: &Value) -> Result<bool, Unread>
     let Some(member) = present(body, "Format") else {
         return Ok(false);
     };
-    match member.as_str() {
-        Some(text) => match is_csv_named(text) {
-            Some(csv) => Ok(csv),
-            None => Err(bad_member(alloc, "Format")),
-        },
+    match text_of(member).and_then(is_csv_named) {
+        Some(csv) => Ok(csv),
         None => Err(bad_member(alloc, "Format")),
     }
 }

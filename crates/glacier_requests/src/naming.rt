@@ -51,3 +51,12 @@ pub(crate) fn not_offered(alloc: Global, name: &str) -> Unread
         Err(_) => Unread::Memory,
     }
 }
+
+pub(crate) fn bad_query(alloc: Global, name: &[u8]) -> Unread
+    ensures { Refuses (refusals.BadQuery name.now) result }
+{
+    match Text::of(alloc, name) {
+        Ok(name) => Unread::Refused(Refusal::BadQuery { name }),
+        Err(_) => Unread::Memory,
+    }
+}

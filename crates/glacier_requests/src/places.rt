@@ -1,7 +1,7 @@
 // What paths name, and what methods do there.
 ghost use Rattle.std.specs.Prelude.{◌≡◌, option_map};
 ghost use Rattle.glacier_base.specs.Cuts.{pieces_of};
-ghost use Rattle.glacier_requests.specs.Places.{method_of, op_at, collection_of, member_of, output_of, with_id, id_kind_of, place_behind};
+ghost use Rattle.glacier_requests.specs.Places.{method_of, op_at, places_of, output_of, id_kind_of, place_behind};
 
 use crate::same::is_same;
 use glacier_base::{IdKind, next_piece};
@@ -119,35 +119,18 @@ pub(crate) fn id_kind_of(place: Place) -> Option<IdKind>
     }
 }
 
-/// The place of one word behind a vault's name.
-fn collection_of(word: &[u8]) -> Option<Place>
-    ensures { result ≡ collection_of word.now }
+/// What a word behind a vault's name stands for: alone, and with an id behind it.
+fn places_of(word: &[u8]) -> Option<(Place, Place)>
+    ensures { result ≡ places_of word.now }
 {
     if is_same(word, b"archives") {
-        Some(Place::Archives)
+        Some((Place::Archives, Place::Archive))
     } else if is_same(word, b"multipart-uploads") {
-        Some(Place::Uploads)
+        Some((Place::Uploads, Place::Upload))
     } else if is_same(word, b"jobs") {
-        Some(Place::Jobs)
+        Some((Place::Jobs, Place::Job))
     } else if is_same(word, b"lock-policy") {
-        Some(Place::LockPolicy)
-    } else {
-        None
-    }
-}
-
-/// The place of a word and an id.
-fn member_of(word: &[u8]) -> Option<Place>
-    ensures { result ≡ member_of word.now }
-{
-    if is_same(word, b"archives") {
-        Some(Place::Archive)
-    } else if is_same(word, b"multipart-uploads") {
-        Some(Place::Upload)
-    } else if is_same(word, b"jobs") {
-        Some(Place::Job)
-    } else if is_same(word, b"lock-policy") {
-        Some(Place::Lock)
+        Some((Place::LockPolicy, Place::Lock))
     } else {
         None
     }
@@ -161,12 +144,6 @@ fn output_of(word: &[u8], last: &[u8]) -> Option<Place>
     } else {
         None
     }
-}
-
-fn with_id(id: &[u8], place: Option<Place>) -> Option<Spot<'_>>
-    ensures { option_map (λ spot. (spot.place, spot.id.now)) result ≡ with_id id.now place }
-{
-    Some(Spot { place: place?, id })
 }
 
 /// The place that the pieces behind a vault's name are: of the path's rest behind the name's slash.
@@ -183,15 +160,18 @@ pub(crate) fn place_behind(rest: Option<&[u8]>) -> Option<Spot<'_>>
     };
     let (word, rest) = next_piece(rest, b'/');
     let Some(rest) = rest else {
-        return with_id(b"", collection_of(word));
+        let place = places_of(word)?.0;
+        return Some(Spot { place, id: b"" });
     };
     let (id, rest) = next_piece(rest, b'/');
     let Some(rest) = rest else {
-        return with_id(id, member_of(word));
+        let place = places_of(word)?.1;
+        return Some(Spot { place, id });
     };
     let (last, rest) = next_piece(rest, b'/');
-    match rest {
-        Some(_) => None,
-        None => with_id(id, output_of(word, last)),
+    if rest.is_some() {
+        return None;
     }
+    let place = output_of(word, last)?;
+    Some(Spot { place, id })
 }

@@ -1,7 +1,7 @@
 // Which route a head has.
-ghost use Rattle.std.specs.Prelude.{◌≡◌, option_map};
+ghost use Rattle.std.specs.Prelude.{◌≡◌, option_map, Some};
 ghost use Rattle.glacier_base.specs.Cuts.{pieces_of};
-ghost use Rattle.glacier_requests.specs.Routes.{pieces, account_of, op_on as vault_op_on, number_of, numbered_route, named_route, op_route, place_route, list_route, account_route, vaults_path, route_of};
+ghost use Rattle.glacier_requests.specs.Routes.{pieces, account_of, op_on as vault_op_on, number_of, place_route, account_route, vaults_path, route_of};
 
 use crate::ids::id_number;
 use crate::places::{Method, Spot, VaultOp, id_kind_of, method_of, op_at, place_behind};
@@ -77,66 +77,21 @@ fn number_of(kind: Option<IdKind>, text: &[u8]) -> Option<u64>
     }
 }
 
-fn numbered_route(
-    account: Option<Account>,
-    op: VaultOp,
-    vault: VaultName,
-    number: Option<u64>,
-) -> RouteStep
-    ensures { result ≡ numbered_route account op vault number }
+/// The route to what a method does at a place of the vault of a name.
+fn place_route(account: Option<Account>, name: &[u8], method: Method, spot: Spot<'_>) -> RouteStep
+    ensures { result ≡ place_route account name.now method (Some (spot.entry.place, spot.entry.id.now)) }
 {
-    match number {
-        None => RouteStep::BadId,
-        Some(number) => RouteStep::Route(Route {
-            account,
-            op: op_on(op, vault, number),
-        }),
-    }
-}
-
-/// The route to an operation on the vault of a name, which may be bad, as the id may.
-fn named_route(account: Option<Account>, op: VaultOp, name: &[u8], number: Option<u64>) -> RouteStep
-    ensures { result ≡ named_route account op name.now number }
-{
-    match VaultName::parse(name) {
-        None => RouteStep::BadName,
-        Some(vault) => numbered_route(account, op, vault, number),
-    }
-}
-
-fn place_route(
-    account: Option<Account>,
-    name: &[u8],
-    method: Method,
-    spot: Option<Spot<'_>>,
-) -> RouteStep
-    ensures { result ≡ place_route account name.now method
-        (option_map (λ s. (s.place, s.id.now)) spot.entry) }
-{
-    let Some(spot) = spot else {
+    let Some(op) = op_at(method, spot.place) else {
         return RouteStep::NoRoute;
     };
-    match op_at(method, spot.place) {
-        None => RouteStep::NoRoute,
-        Some(op) => named_route(
-            account,
-            op,
-            name,
-            number_of(id_kind_of(spot.place), spot.id),
-        ),
-    }
-}
-
-fn list_route(account: Option<Account>, method: Method) -> RouteStep
-    ensures { result ≡ list_route account method }
-{
-    match method {
-        Method::Get => RouteStep::Route(Route {
-            account,
-            op: Op::ListVaults,
-        }),
-        _ => RouteStep::NoRoute,
-    }
+    let Some(vault) = VaultName::parse(name) else {
+        return RouteStep::BadName;
+    };
+    let Some(number) = number_of(id_kind_of(spot.place), spot.id) else {
+        return RouteStep::BadId;
+    };
+    let op = op_on(op, vault, number);
+    RouteStep::Route(Route { account, op })
 }
 
 /// The route by a method and what stands behind `/ACCOUNT/vaults`.
@@ -145,10 +100,19 @@ fn account_route(method: Method, account: Option<Account>, rest: Option<&[u8]>) 
         (pieces_of 47 (option_map (λ r. r.now) rest.entry)) }
 {
     let Some(rest) = rest else {
-        return list_route(account, method);
+        return match method {
+            Method::Get => RouteStep::Route(Route {
+                account,
+                op: Op::ListVaults,
+            }),
+            _ => RouteStep::NoRoute,
+        };
     };
     let (name, rest) = next_piece(rest, b'/');
-    place_route(account, name, method, place_behind(rest))
+    match place_behind(rest) {
+        None => RouteStep::NoRoute,
+        Some(spot) => place_route(account, name, method, spot),
+    }
 }
 
 /// The account of a path that begins with `/ACCOUNT/vaults`, and what stands behind the slash that
