@@ -1,6 +1,7 @@
 pub mod Ids
 pub mod JobBodies
 pub mod Members
+pub mod Naming
 pub mod Parts
 pub mod Paths
 pub mod Places

@@ -9,7 +9,7 @@ ghost use Rattle.glacier_requests.specs.Reads.{Reads};
 use crate::ids::id_number;
 use crate::jobs::{JobBody, JobKind};
 use crate::members::{object_of, present, text_of};
-use crate::naming::{bad_member, missing_member, not_offered};
+use crate::naming::{Fault, refuse};
 use crate::ranges::range_of;
 use crate::same::is_same;
 use crate::unread::Unread;
@@ -75,7 +75,7 @@ fn type_in(alloc: Global, body: &Value) -> Result<JobType, Unread>
     ensures { Reads (type_in (view body.now)) result }
 {
     let Some(member) = present(body, "Type") else {
-        return Err(missing_member(alloc, "Type"));
+        return Err(refuse(alloc, Fault::MissingMember, b"Type"));
     };
     match text_of(member).and_then(type_named) {
         Some(job_type) => Ok(job_type),
@@ -88,16 +88,16 @@ fn refuse_unoffered(alloc: Global, body: &Value) -> Result<(), Unread>
     ensures { Reads (unless_there unoffered_names (view body.now)) result }
 {
     if present(body, "SNSTopic").is_some() {
-        return Err(not_offered(alloc, "SNSTopic"));
+        return Err(refuse(alloc, Fault::NotOffered, b"SNSTopic"));
     }
     if present(body, "SelectParameters").is_some() {
-        return Err(not_offered(alloc, "SelectParameters"));
+        return Err(refuse(alloc, Fault::NotOffered, b"SelectParameters"));
     }
     if present(body, "OutputLocation").is_some() {
-        return Err(not_offered(alloc, "OutputLocation"));
+        return Err(refuse(alloc, Fault::NotOffered, b"OutputLocation"));
     }
     if present(body, "InventoryRetrievalParameters").is_some() {
-        return Err(not_offered(alloc, "InventoryRetrievalParameters"));
+        return Err(refuse(alloc, Fault::NotOffered, b"InventoryRetrievalParameters"));
     }
     Ok(())
 }
@@ -110,7 +110,7 @@ fn description_in(alloc: Global, body: &Value) -> Result<Description, Unread>
     };
     match text_of(member).and_then(Description::parse) {
         Some(description) => Ok(description),
-        None => Err(bad_member(alloc, "Description")),
+        None => Err(refuse(alloc, Fault::BadMember, b"Description")),
     }
 }
 
@@ -122,7 +122,7 @@ fn tier_in(alloc: Global, body: &Value) -> Result<Tier, Unread>
     };
     match text_of(member).and_then(tier_named) {
         Some(tier) => Ok(tier),
-        None => Err(bad_member(alloc, "Tier")),
+        None => Err(refuse(alloc, Fault::BadMember, b"Tier")),
     }
 }
 
@@ -130,11 +130,11 @@ fn archive_in(alloc: Global, body: &Value) -> Result<u64, Unread>
     ensures { Reads (archive_in (view body.now)) result }
 {
     let Some(member) = present(body, "ArchiveId") else {
-        return Err(missing_member(alloc, "ArchiveId"));
+        return Err(refuse(alloc, Fault::MissingMember, b"ArchiveId"));
     };
     match text_of(member).and_then(archive_number) {
         Some(archive) => Ok(archive),
-        None => Err(bad_member(alloc, "ArchiveId")),
+        None => Err(refuse(alloc, Fault::BadMember, b"ArchiveId")),
     }
 }
 
@@ -146,7 +146,7 @@ fn range_in(alloc: Global, body: &Value) -> Result<Option<(u64, u64)>, Unread>
     };
     match text_of(member).and_then(range_of) {
         Some(range) => Ok(Some(range)),
-        None => Err(bad_member(alloc, "RetrievalByteRange")),
+        None => Err(refuse(alloc, Fault::BadMember, b"RetrievalByteRange")),
     }
 }
 
@@ -158,7 +158,7 @@ fn is_csv_in(alloc: Global, body: &Value) -> Result<bool, Unread>
     };
     match text_of(member).and_then(is_csv_named) {
         Some(csv) => Ok(csv),
-        None => Err(bad_member(alloc, "Format")),
+        None => Err(refuse(alloc, Fault::BadMember, b"Format")),
     }
 }
 

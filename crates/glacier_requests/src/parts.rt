@@ -4,7 +4,7 @@ ghost use Rattle.glacier_http.specs.Fields.{values_of};
 ghost use Rattle.glacier_requests.specs.Parts.{part_size_in, parts_head_of, first_of as first_of_range, first_in, part_head_of, archive_size_in, completion_head_of, range_or_outside as range_that_may_be_outside, output_range_of};
 ghost use Rattle.glacier_requests.specs.Reads.{Reads};
 
-use crate::naming::{bad_header, missing_header};
+use crate::naming::{Fault, refuse};
 use crate::ranges::{byte_range_of, content_range_of};
 use crate::unread::Unread;
 use crate::uploads::{description_under, digest_under};
@@ -50,7 +50,7 @@ fn part_size_under(alloc: Global, head: &Head<'_>) -> Result<u64, Unread>
     ensures { Reads (part_size_in (values_of (codes "x-amz-part-size") head.now.fields)) result }
 {
     match head.find(b"x-amz-part-size") {
-        Find::None => Err(missing_header(alloc, b"x-amz-part-size")),
+        Find::None => Err(refuse(alloc, Fault::MissingHeader, b"x-amz-part-size")),
         Find::One(value) => match number(MOST_DIGITS, value) {
             Some(part_size) => Ok(part_size),
             None => Err(Unread::Refused(Refusal::BadPartSize)),
@@ -86,7 +86,7 @@ fn first_under(alloc: Global, head: &Head<'_>, length: u64) -> Result<u64, Unrea
     ensures { Reads (first_in length (values_of (codes "Content-Range") head.now.fields)) result }
 {
     match head.find(b"Content-Range") {
-        Find::None => Err(missing_header(alloc, b"Content-Range")),
+        Find::None => Err(refuse(alloc, Fault::MissingHeader, b"Content-Range")),
         Find::One(value) => first_of(length, content_range_of(value)),
         Find::Many(_) => Err(Unread::Refused(Refusal::BadRange)),
     }
@@ -113,12 +113,12 @@ fn archive_size_under(alloc: Global, head: &Head<'_>) -> Result<u64, Unread>
     ensures { Reads (archive_size_in (values_of (codes "x-amz-archive-size") head.now.fields)) result }
 {
     match head.find(b"x-amz-archive-size") {
-        Find::None => Err(missing_header(alloc, b"x-amz-archive-size")),
+        Find::None => Err(refuse(alloc, Fault::MissingHeader, b"x-amz-archive-size")),
         Find::One(value) => match number(MOST_DIGITS, value) {
             Some(size) if size >= 1 => Ok(size),
-            _ => Err(bad_header(alloc, b"x-amz-archive-size")),
+            _ => Err(refuse(alloc, Fault::BadHeader, b"x-amz-archive-size")),
         },
-        Find::Many(_) => Err(bad_header(alloc, b"x-amz-archive-size")),
+        Find::Many(_) => Err(refuse(alloc, Fault::BadHeader, b"x-amz-archive-size")),
     }
 }
 

@@ -8,7 +8,7 @@ ghost use Rattle.glacier_requests.specs.Reads.{Reads, ReadsAs};
 
 use crate::ids::id_number;
 use crate::lists::{DEFAULT_LIMIT, MOST_LIMIT, StatusCode};
-use crate::naming::bad_query;
+use crate::naming::{Fault, refuse};
 use crate::same::is_same;
 use crate::unread::Unread;
 use glacier_base::{IdKind, List, Memory, VaultName};
@@ -50,7 +50,7 @@ fn value_under<'a>(
         return Ok(None);
     };
     match first_under(name, behind) {
-        Some(_) => Err(bad_query(alloc, name)),
+        Some(_) => Err(refuse(alloc, Fault::BadQuery, name)),
         None => Ok(Some(value)),
     }
 }
@@ -73,7 +73,7 @@ pub(crate) fn limit_in(alloc: Global, pairs: &[Pair]) -> Result<u32, Unread>
     };
     match limit_of(value) {
         Some(limit) => Ok(limit),
-        None => Err(bad_query(alloc, b"limit")),
+        None => Err(refuse(alloc, Fault::BadQuery, b"limit")),
     }
 }
 
@@ -86,7 +86,7 @@ pub(crate) fn name_marker(alloc: Global, pairs: &[Pair]) -> Result<Option<VaultN
     };
     match VaultName::parse(value) {
         Some(name) => Ok(Some(name)),
-        None => Err(bad_query(alloc, b"marker")),
+        None => Err(refuse(alloc, Fault::BadQuery, b"marker")),
     }
 }
 
@@ -99,7 +99,7 @@ pub(crate) fn id_marker(alloc: Global, kind: IdKind, pairs: &[Pair]) -> Result<O
     };
     match id_number(kind, value) {
         Some(id) => Ok(Some(id)),
-        None => Err(bad_query(alloc, b"marker")),
+        None => Err(refuse(alloc, Fault::BadQuery, b"marker")),
     }
 }
 
@@ -112,7 +112,7 @@ pub(crate) fn place_marker(alloc: Global, pairs: &[Pair]) -> Result<Option<u64>,
     };
     match number(MOST_DIGITS, value) {
         Some(place) => Ok(Some(place)),
-        None => Err(bad_query(alloc, b"marker")),
+        None => Err(refuse(alloc, Fault::BadQuery, b"marker")),
     }
 }
 
@@ -128,7 +128,7 @@ pub(crate) fn completed_in(alloc: Global, pairs: &[Pair]) -> Result<Option<bool>
     } else if is_same(value, b"false") {
         Ok(Some(false))
     } else {
-        Err(bad_query(alloc, b"completed"))
+        Err(refuse(alloc, Fault::BadQuery, b"completed"))
     }
 }
 
@@ -146,6 +146,6 @@ pub(crate) fn status_in(alloc: Global, pairs: &[Pair]) -> Result<Option<StatusCo
     } else if is_same(value, b"Failed") {
         Ok(Some(StatusCode::Failed))
     } else {
-        Err(bad_query(alloc, b"statuscode"))
+        Err(refuse(alloc, Fault::BadQuery, b"statuscode"))
     }
 }

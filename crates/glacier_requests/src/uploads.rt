@@ -3,7 +3,7 @@ ghost use Rattle.std.specs.Prelude.{◌≡◌, []};
 ghost use Rattle.glacier_requests.specs.Reads.{Reads};
 ghost use Rattle.glacier_requests.specs.Uploads.{digest_under, description_under as description_in, upload_head_of};
 
-use crate::naming::{bad_header, missing_header};
+use crate::naming::{Fault, refuse};
 use crate::unread::Unread;
 use glacier_base::{Description, Digest};
 use glacier_http::{Find, Head};
@@ -25,12 +25,12 @@ pub(crate) fn digest_under(alloc: Global, head: &Head<'_>, name: &[u8]) -> Resul
     ensures { Reads (digest_under name.now head.now) result }
 {
     match head.find(name) {
-        Find::None => Err(missing_header(alloc, name)),
+        Find::None => Err(refuse(alloc, Fault::MissingHeader, name)),
         Find::One(value) => match Digest::parse(value) {
             Some(digest) => Ok(digest),
-            None => Err(bad_header(alloc, name)),
+            None => Err(refuse(alloc, Fault::BadHeader, name)),
         },
-        Find::Many(_) => Err(bad_header(alloc, name)),
+        Find::Many(_) => Err(refuse(alloc, Fault::BadHeader, name)),
     }
 }
 
@@ -53,9 +53,9 @@ pub(crate) fn description_under(alloc: Global, head: &Head<'_>) -> Result<Descri
         Find::None => Ok(no_description()),
         Find::One(value) => match Description::parse(value) {
             Some(description) => Ok(description),
-            None => Err(bad_header(alloc, b"x-amz-archive-description")),
+            None => Err(refuse(alloc, Fault::BadHeader, b"x-amz-archive-description")),
         },
-        Find::Many(_) => Err(bad_header(alloc, b"x-amz-archive-description")),
+        Find::Many(_) => Err(refuse(alloc, Fault::BadHeader, b"x-amz-archive-description")),
     }
 }
 
