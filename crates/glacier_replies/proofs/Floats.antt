@@ -5,7 +5,7 @@ use Rattle.std.specs.Cmp.Lexicographic.{slice_cmp}
 use Rattle.serde_json.specs.Data.{Data, Members, no_members, member, put}
 use Rattle.serde_json.specs.Written.{has_float, members_have_float}
 use Rattle.glacier_replies.specs.declared.objects.Part.{Part}
-use Rattle.glacier_replies.specs.declared.objects.Part.TheVariants.{Text, Number, Null}
+use Rattle.glacier_replies.specs.declared.objects.Part.TheVariants.{Text, Number, Flag, Date, Digest, Id, Range, Null}
 use Rattle.glacier_replies.specs.Bodies.{part_data}
 
 neither : (a b : Bool) → a ≡ false → b ≡ false → (a || b) ≡ false
@@ -34,4 +34,9 @@ put_plain k d (member l e ms) h i =
 pub part_plain : (p : Part) → has_float (part_data p) ≡ false
 part_plain (Text s) = refl
 part_plain (Number n) = refl
+part_plain (Flag flag) = refl
+part_plain (Date date) = refl
+part_plain (Digest digest) = refl
+part_plain (Id id) = refl
+part_plain (Range first last) = refl
 part_plain Null = refl

@@ -1,3 +1,4 @@
 pub mod AsciiTexts
+pub mod FieldLemmas
 pub mod Floats
 pub mod NameLemmas

@@ -1,12 +1,14 @@
 -- The JSON bodies, as serde_json prints them without spaces.
-use Rattle.std.specs.Prelude.{ℕ, List, [], ◌∷◌, ◌++◌, codes}
+use Rattle.std.specs.Prelude.{ℕ, List, [], ◌∷◌, ◌++◌, codes, decimal}
 use Rattle.std.specs.Borrow.{Bor}
 use Rattle.std.specs.FinMap as map
-use Rattle.serde_json.specs.Data.{Data, null, number, unsigned, string, object, Members, no_members, put}
+use Rattle.hex.specs.Hex.{encode_lower}
+use Rattle.serde_json.specs.Data.{Data, null, boolean, number, unsigned, string, object, Members, no_members, put}
 use Rattle.glacier_base.specs.Dates.{iso_of}
+use Rattle.glacier_base.specs.Ids.{id_text}
 use Rattle.glacier_vault.specs.declared.state.VaultState.{VaultState}
 use Rattle.glacier_replies.specs.declared.objects.Part.{Part}
-use Rattle.glacier_replies.specs.declared.objects.Part.TheVariants.{Text, Number, Null}
+use Rattle.glacier_replies.specs.declared.objects.Part.TheVariants.{Text, Number, Flag, Date, Digest, Id, Range, Null}
 
 -- a member's name and its value
 abbrev pub Pair : Type 0
@@ -25,6 +27,11 @@ object_of pairs = object (put_all pairs no_members)
 abbrev pub part_data : Part → Data
 part_data (Text text) = string text.now
 part_data (Number n) = number (unsigned n)
+part_data (Flag flag) = boolean flag
+part_data (Date date) = string (iso_of date.now)
+part_data (Digest digest) = string (encode_lower digest.now)
+part_data (Id id) = string (id_text id)
+part_data (Range first last) = string (decimal first ++ codes "-" ++ decimal last)
 part_data Null = null
 
 abbrev pub pair_of : Bor (List ℕ) × Part → Pair

@@ -1,4 +1,7 @@
 pub mod Bodies
+pub mod Fields
+pub mod JobReplies
+pub mod Jobs
 pub mod Messages
 pub mod Paths
 pub mod Refusals

@@ -1,5 +1,5 @@
 -- The replies.
-use Rattle.std.specs.Prelude.{ℕ, List, [], ◌∷◌, codes}
+use Rattle.std.specs.Prelude.{ℕ, List, [], ◌∷◌}
 use Rattle.serde_json.specs.Written.{compact_text}
 use Rattle.glacier_http.specs.declared.reply.Kind.TheVariants.{Empty, Json}
 use Rattle.glacier_http.specs.declared.reply.Reply.{Reply}
@@ -7,7 +7,8 @@ use Rattle.glacier_vault.specs.declared.refusal.Refusal.{Refusal}
 use Rattle.glacier_vault.specs.declared.rules.Rules.{Rules}
 use Rattle.glacier_vault.specs.declared.state.VaultState.{VaultState}
 use Rattle.glacier_replies.specs.Bodies.{refusal_data, vault_data, arn_of}
-use Rattle.glacier_replies.specs.Paths.{location}
+use Rattle.glacier_replies.specs.Fields.{location_field, tree_field, archive_id_field}
+use Rattle.glacier_replies.specs.Paths.{location, archive_id, archive_location}
 use Rattle.glacier_replies.specs.Messages.{message_of}
 use Rattle.glacier_replies.specs.Refusals.{status_of, code_of}
 
@@ -23,14 +24,27 @@ refused refusal = json_reply (status_of refusal) (compact_text (refusal_data (co
 abbrev pub created : Rules → List ℕ → Reply
 created rules name = record {
   status = 201;
-  fields = record { name = codes "Location"; value = location rules.account name } ∷ [];
+  fields = location_field (location rules.account name) ∷ [];
   kind = Empty;
   body = [];
 }
 
--- what is answered where a vault was deleted or wasn't there
+-- what is answered where a vault or an archive was deleted or wasn't there
 abbrev pub deleted : Reply
 deleted = record { status = 204; fields = []; kind = Empty; body = [] }
+
+-- what is answered where an archive with this number and tree hash was uploaded
+abbrev pub uploaded : Rules → List ℕ → ℕ → List ℕ → Reply
+uploaded rules name number tree = record {
+  status = 201;
+  fields =
+      location_field (archive_location rules.account name (archive_id number))
+      ∷ tree_field tree
+      ∷ archive_id_field (archive_id number)
+      ∷ [];
+  kind = Empty;
+  body = [];
+}
 
 -- what is answered to the question for a vault
 abbrev pub described : Rules → List ℕ → VaultState → Reply

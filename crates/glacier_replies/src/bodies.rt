@@ -34,7 +34,7 @@ pub(crate) fn refusal_body(alloc: Global, code: &str, message: &str) -> Result<T
 }
 
 /// The resource name of a vault.
-fn arn(alloc: Global, rules: &Rules, name: &VaultName) -> Result<String, AllocError>
+pub(crate) fn arn(alloc: Global, rules: &Rules, name: &VaultName) -> Result<String, AllocError>
     ensures { IfOk result (λ text. string_bytes text
         ≡ arn_of rules.now.region rules.now.account name.now) }
 {

@@ -1,36 +1,23 @@
 // The replies to what is accepted.
 ghost use Rattle.std.specs.Prelude.{◌≡◌, IfOk};
-ghost use Rattle.glacier_replies.specs.Paths.{location as path_of_vault};
-ghost use Rattle.glacier_replies.specs.Replies.{created, deleted, described};
+ghost use Rattle.glacier_replies.specs.Replies.{created, deleted, described, uploaded};
 
 use crate::bodies::vault_body;
+use crate::fields::{push_field, push_tree};
+use crate::paths::{item_location, location};
 use crate::refusals::json_reply;
-use glacier_base::{Account, List, Memory, Text, VaultName};
-use glacier_http::{Field, Kind, Reply};
+use glacier_base::{Digest, Id, IdKind, List, Memory, Text, VaultName};
+use glacier_http::{Kind, Reply};
 use glacier_vault::{Rules, VaultState};
 use std::alloc::Global;
 
-/// The path of a vault.
-fn location(alloc: Global, account: &Account, name: &VaultName) -> Result<Text, Memory>
-    ensures { IfOk result (λ text. text ≡ path_of_vault account.now name.now) }
-{
-    let mut text = Text::of(alloc, b"/")?;
-    text.extend_from_slice(account.bytes())?;
-    text.extend_from_slice(b"/vaults/")?;
-    text.extend_from_slice(name.bytes())?;
-    Ok(text)
-}
-
-/// The reply where a vault was made or is there already.
+/// The reply where a vault was made or is there already: 201 with its path.
 pub fn created_reply(alloc: Global, rules: &Rules, name: &VaultName) -> Result<Reply, Memory>
     ensures { IfOk result (λ reply. reply ≡ created rules.now name.now) }
 {
-    let field = Field {
-        name: Text::of(alloc, b"Location")?,
-        value: location(alloc, &rules.account, name)?,
-    };
+    let path = location(alloc, &rules.account, name)?;
     let mut fields = List::new(alloc);
-    fields.push(field)?;
+    push_field(alloc, &mut fields, b"Location", path)?;
     Ok(Reply {
         status: 201,
         fields,
@@ -39,7 +26,7 @@ pub fn created_reply(alloc: Global, rules: &Rules, name: &VaultName) -> Result<R
     })
 }
 
-/// The reply where a vault was deleted or wasn't there.
+/// The reply where a vault or an archive was deleted or wasn't there: 204.
 pub fn deleted_reply(alloc: Global) -> Reply
     ensures { result ≡ deleted }
 {
@@ -49,6 +36,39 @@ pub fn deleted_reply(alloc: Global) -> Reply
         kind: Kind::Empty,
         body: Text::new(alloc),
     }
+}
+
+/// The reply where an archive with this number and tree hash was uploaded: 201 with its path, its
+/// tree hash and its id.
+pub fn uploaded_reply(
+    alloc: Global,
+    rules: &Rules,
+    name: &VaultName,
+    archive: u64,
+    tree: &Digest,
+) -> Result<Reply, Memory>
+    ensures { IfOk result (λ reply. reply ≡ uploaded rules.now name.now archive tree.now) }
+{
+    let id = Id {
+        kind: IdKind::Archive,
+        number: archive,
+    };
+    let path = item_location(alloc, &rules.account, name, b"/archives/", id)?;
+    let mut fields = List::new(alloc);
+    push_field(alloc, &mut fields, b"Location", path)?;
+    push_tree(alloc, &mut fields, tree)?;
+    push_field(
+        alloc,
+        &mut fields,
+        b"x-amz-archive-id",
+        Text::of(alloc, &id.text())?,
+    )?;
+    Ok(Reply {
+        status: 201,
+        fields,
+        kind: Kind::Empty,
+        body: Text::new(alloc),
+    })
 }
 
 /// The reply to the question for a vault.

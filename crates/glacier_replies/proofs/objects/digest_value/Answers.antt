@@ -1,0 +1,5 @@
+use Rattle.glacier_replies.proofs.AsciiTexts.{hex_is_ascii}
+use Rattle.glacier_replies.proofs.objects.digest_value.Goals as goal
+
+pub ascii_text-requires : goal.ascii_text-requires
+ascii_text-requires c = rw c.text-text.ensures.text (hex_is_ascii c.args.digest.now)
