@@ -36,7 +36,7 @@ absent_below q [] h = refl
 absent_below q (f ∷ fs) h = ap (λ b. cond b (Some f.1) (map.find nat_cmp q fs)) (ap is_eq h.0) ∙ absent_below q fs h.1
 
 -- where the keys rise, what is known of each look-up is known of each entry
-each_entry : {X : Type 0} (P : ℕ → X → Type 0) (es : List (ℕ × X)) → IsStrictlySortedBy nat_cmp (keys_of es) → ((q : ℕ) → IfSome (map.find nat_cmp q es) (P q)) → AllByRecursion (λ e. P e.0 e.1) es
+pub each_entry : {X : Type 0} (P : ℕ → X → Type 0) (es : List (ℕ × X)) → IsStrictlySortedBy nat_cmp (keys_of es) → ((q : ℕ) → IfSome (map.find nat_cmp q es) (P q)) → AllByRecursion (λ e. P e.0 e.1) es
 each_entry P [] sorted known = tt
 each_entry {X} P (e ∷ es) sorted known = (
   subst (λ b. IfSome (cond b (Some e.1) (map.find nat_cmp e.0 es)) (P e.0)) ((eq_by_cmp_equiv nat_cmp_total).refl e.0) (known e.0),

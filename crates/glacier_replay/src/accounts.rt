@@ -1,0 +1,104 @@
+// The state of all accounts.
+ghost use Rattle.std.specs.Prelude.{◌≡◌, OnOk, if◌then◌else◌};
+ghost use Rattle.std.specs.FinMap as map;
+ghost use Rattle.std.specs.Option.{option_copied};
+ghost use Rattle.glacier_replay.specs.Accounts.{account_in};
+ghost use Rattle.glacier_vault.specs.Lawful.{IsLawful};
+
+use glacier_base::{Account, AccountMap, Memory, Moment};
+use glacier_vault::AccountState;
+use std::alloc::Global;
+use std::marker::Model;
+
+/// The state of each account that was ever changed.
+#[derive(Drop)]
+pub struct Accounts {
+    accounts: AccountMap<AccountState>,
+}
+
+impl Model for Accounts {
+    ghost use Rattle.glacier_replay.specs.Accounts.{Accounts as AllAccounts, AllLawful};
+    ghost use Rattle.glacier_replay.specs.AccountsCode.{accounts_code};
+
+    ghost Value = { AllAccounts };
+
+    ghost coded = { accounts_code };
+
+    ghost view = { λ s. s.accounts };
+
+    ghost invariant = { λ s. AllLawful s.accounts };
+}
+
+impl Accounts {
+    /// No account.
+    #[tactic(auto, using(crate::proofs::PutLemmas::none_lawful))]
+    pub fn empty(alloc: Global) -> Accounts
+        ensures { result ≡ map.empty }
+    {
+        Accounts {
+            accounts: AccountMap::new(alloc),
+        }
+    }
+
+    /// Whether the account was ever changed.
+    pub fn contains(&self, account: &Account) -> bool
+        ensures { result ≡ map.contains_key self.now account.now }
+    {
+        self.accounts.contains(account)
+    }
+
+    /// Takes the state of an account out, which is empty where it was never changed.
+    pub fn take(&mut self, alloc: Global, account: &Account) -> AccountState
+        ensures state { result ≡ account_in self.old account.now }
+        ensures lawful { IsLawful result }
+        ensures rest { self.new ≡ map.remove self.old account.now }
+    {
+        match self.accounts.remove(account) {
+            Some(state) => state,
+            None => AccountState::new(alloc),
+        }
+    }
+
+    /// The state of an account, if it was ever changed.
+    pub fn get(&self, account: &Account) -> Option<&AccountState>
+        ensures { option_copied result ≡ map.get self.now account.now }
+    {
+        self.accounts.get(account)
+    }
+
+    /// The moment of an account's last event.
+    pub fn last(&self, account: &Account) -> Moment
+        ensures { result ≡ (account_in self.now account.now).last }
+    {
+        match self.accounts.get(account) {
+            Some(state) => state.last,
+            None => Moment::new(0).unwrap(),
+        }
+    }
+
+    /// Puts the state of an account in. An error is want of memory.
+    pub fn put(&mut self, account: Account, state: AccountState) -> Result<(), Memory>
+        requires { IsLawful state }
+        ensures { OnOk result (self.new ≡ map.insert self.old account state) }
+    {
+        self.accounts.insert(account, state)
+    }
+
+    /// Puts the state of an account in, where it is to be kept. An error is want of memory.
+    pub fn put_if(
+        &mut self,
+        keep: bool,
+        account: Account,
+        state: AccountState,
+    ) -> Result<(), Memory>
+        requires { IsLawful state }
+        ensures { OnOk result (self.new ≡
+            (if keep then map.insert self.old account state else self.old)) }
+    {
+        if keep {
+            self.put(account, state)
+        } else {
+            Ok(())
+        }
+    }
+}
