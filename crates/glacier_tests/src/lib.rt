@@ -6,8 +6,6 @@ mod area_file_tests;
 #[cfg(test)]
 mod base_tests;
 #[cfg(test)]
-mod extents_tests;
-#[cfg(test)]
 mod gate_tests;
 #[cfg(test)]
 mod hmac_tests;
@@ -24,16 +22,8 @@ mod map_tests;
 #[cfg(test)]
 mod outside_tests;
 #[cfg(test)]
-mod policy_tests;
-#[cfg(test)]
 mod range_tests;
 #[cfg(test)]
 mod sigv4_tests;
 #[cfg(test)]
 mod treehash_tests;
-#[cfg(test)]
-mod upload_calls;
-#[cfg(test)]
-mod upload_tests;
-#[cfg(test)]
-mod vault_tests;
