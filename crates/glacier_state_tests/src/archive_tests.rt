@@ -10,6 +10,7 @@ use glacier_vault::{AccountState, Archive, Event, Refusal, used};
 use std::alloc::Global;
 
 const ABC: &str = "ba7816bf8f01cfea414140de5dae2223b00361a396177a9cb410ff61f20015ad";
+
 const NO_BYTES: &str = "e3b0c44298fc1c149afbf4c8996fb92427ae41e4649b934ca495991b7852b855";
 
 /// What a call answers.
@@ -38,7 +39,10 @@ fn one_leaf(alloc: Global, leaf: Digest) -> Result<Found, Memory>
 fn is_upload(event: &Event, ground: &Ground, digest: &Digest) -> bool {
     match event {
         Event::Upload {
-            name, size, leaves, ..
+            name,
+            size,
+            leaves,
+            ..
         } => *name == ground.vault && *size == 3 && leaves.as_slice() == [*digest].as_slice(),
         _ => false,
     }

@@ -1,5 +1,5 @@
 // Pages of a vault's jobs, the lines of an inventory, and the tree hashes of retrieved ranges, by
-// hand from docs/rules/vault-machine.md. The tree hashes are by Python's hashlib.
+// hand from docs/rules/jobs.md. The tree hashes are by Python's hashlib.
 ghost use Rattle.std.specs.Prelude.{OnOk};
 ghost use Rattle.glacier_vault.specs.Lawful.{IsLawful};
 
@@ -15,12 +15,7 @@ use std::alloc::Global;
 const MIB: u64 = 1_048_576;
 
 /// Makes a call whose answer isn't asked for.
-fn go(
-    alloc: Global,
-    state: &mut AccountState,
-    ground: &Ground,
-    step: Step,
-) -> Result<(), Memory>
+fn go(alloc: Global, state: &mut AccountState, ground: &Ground, step: Step) -> Result<(), Memory>
     requires { IsLawful state.old }
     ensures { OnOk result (IsLawful state.new) }
 {
@@ -72,8 +67,20 @@ const PAGES: [Page; 13] = [
     (None, Some(StageName::Succeeded), (None, 50), &[2, 5], None),
     (None, Some(StageName::Failed), (None, 50), &[3], None),
     (None, Some(StageName::InProgress), (None, 50), &[4], None),
-    (Some(true), Some(StageName::InProgress), (None, 50), &[], None),
-    (Some(true), Some(StageName::Succeeded), (None, 1), &[2], Some(5)),
+    (
+        Some(true),
+        Some(StageName::InProgress),
+        (None, 50),
+        &[],
+        None,
+    ),
+    (
+        Some(true),
+        Some(StageName::Succeeded),
+        (None, 1),
+        &[2],
+        Some(5),
+    ),
 ];
 
 fn is_listed(
@@ -124,7 +131,10 @@ fn jobs_are_listed_by_their_stages(rt: HostRuntime) -> Result<(), Memory> {
     let mut state = account_on(alloc, &ground)?;
     four_jobs(alloc, &mut state, &ground)?;
     for place in 0..PAGES.len() {
-        assert!(rt; is_listed(alloc, &state, &ground, &PAGES[place])?, "page {place}");
+        assert!(rt;
+            is_listed(alloc, &state, &ground, &PAGES[place])?,
+            "page {place}"
+        );
     }
     assert!(rt; is_inventory(&state, &ground, 5));
     Ok(())
@@ -135,11 +145,31 @@ fn jobs_are_listed_by_their_stages(rt: HostRuntime) -> Result<(), Memory> {
 type RangeHash = (u64, u64, &'static str);
 
 const HASHES: [RangeHash; 6] = [
-    (0, 1, "0101010101010101010101010101010101010101010101010101010101010101"),
-    (4, 5, "0101010101010101010101010101010101010101010101010101010101010101"),
-    (2, 4, "7c8975e1e60a5c8337f28edf8c33c3b180360b7279644a9bc1af3c51e6220bf5"),
-    (0, 4, "a50238447e4df785f40d5c4f3bfe91d7942b13c2a7f32d6f593c4485acffac96"),
-    (0, 5, "4963d37dc2f4d954bb295031b9ff42cd6b99743633742780a9fb230556a79ba1"),
+    (
+        0,
+        1,
+        "0101010101010101010101010101010101010101010101010101010101010101",
+    ),
+    (
+        4,
+        5,
+        "0101010101010101010101010101010101010101010101010101010101010101",
+    ),
+    (
+        2,
+        4,
+        "7c8975e1e60a5c8337f28edf8c33c3b180360b7279644a9bc1af3c51e6220bf5",
+    ),
+    (
+        0,
+        4,
+        "a50238447e4df785f40d5c4f3bfe91d7942b13c2a7f32d6f593c4485acffac96",
+    ),
+    (
+        0,
+        5,
+        "4963d37dc2f4d954bb295031b9ff42cd6b99743633742780a9fb230556a79ba1",
+    ),
     (1, 3, ""),
 ];
 
@@ -190,7 +220,12 @@ fn ranges_that_are_nodes_have_hashes(rt: HostRuntime) -> Result<(), Memory> {
     let mut state = account_on(alloc, &ground)?;
     go(alloc, &mut state, &ground, Other(Upload(5 * MIB, 1, 9)))?;
     for row in &HASHES {
-        assert!(rt; has_hash(alloc, &mut state, &ground, row)?, "{} to {}", row.0, row.1);
+        assert!(rt;
+            has_hash(alloc, &mut state, &ground, row)?,
+            "{} to {}",
+            row.0,
+            row.1
+        );
     }
     Ok(())
 }

@@ -1,4 +1,4 @@
-// What jobs answer and leave, one call after another, by hand from docs/rules/vault-machine.md. The
+// What jobs answer and leave, one call after another, by hand from docs/rules/jobs.md. The
 // ground's moment is 1,337,905,493.
 ghost use Rattle.std.specs.Prelude.{OnOk};
 ghost use Rattle.glacier_vault.specs.Lawful.{IsLawful};
@@ -50,15 +50,39 @@ fn answered(
 
 /// A job of each tier is ready so many seconds on, and keeps its output for a day.
 const KEPT: [Row; 16] = [
-    (Step::Retrieve(0, None, Tier::Standard), Said::NoArchive(0), [0, 0, 0]),
+    (
+        Step::Retrieve(0, None, Tier::Standard),
+        Said::NoArchive(0),
+        [0, 0, 0],
+    ),
     (Step::Other(Upload(3, 1, 9)), Said::Event, [1, 0, 1]),
-    (Step::Retrieve(0, None, Tier::Expedited), Said::Event, [1, 1, 2]),
-    (Step::Retrieve(0, None, Tier::Standard), Said::Event, [1, 2, 3]),
+    (
+        Step::Retrieve(0, None, Tier::Expedited),
+        Said::Event,
+        [1, 1, 2],
+    ),
+    (
+        Step::Retrieve(0, None, Tier::Standard),
+        Said::Event,
+        [1, 2, 3],
+    ),
     (Step::Retrieve(0, None, Tier::Bulk), Said::Event, [1, 3, 4]),
     (Step::Time(299), Said::Nothing, [1, 3, 4]),
-    (Step::Output(1, 3, None), Said::NotReady(1_337_905_793), [1, 3, 4]),
-    (Step::Output(2, 3, None), Said::NotReady(1_337_919_893), [1, 3, 4]),
-    (Step::Output(3, 3, None), Said::NotReady(1_337_934_293), [1, 3, 4]),
+    (
+        Step::Output(1, 3, None),
+        Said::NotReady(1_337_905_793),
+        [1, 3, 4],
+    ),
+    (
+        Step::Output(2, 3, None),
+        Said::NotReady(1_337_919_893),
+        [1, 3, 4],
+    ),
+    (
+        Step::Output(3, 3, None),
+        Said::NotReady(1_337_934_293),
+        [1, 3, 4],
+    ),
     (Step::Time(300), Said::Event, [1, 3, 4]),
     (Step::Output(1, 3, None), Said::Bytes(0, 3), [1, 3, 4]),
     (Step::Time(28_801), Said::Event, [1, 3, 4]),
@@ -78,18 +102,30 @@ const BACK: [Row; 3] = [
 /// An archive that is deleted before its job is ready.
 const FAILED: [Row; 7] = [
     (Step::Other(Upload(3, 1, 9)), Said::Event, [1, 0, 1]),
-    (Step::Retrieve(0, None, Tier::Expedited), Said::Event, [1, 1, 2]),
+    (
+        Step::Retrieve(0, None, Tier::Expedited),
+        Said::Event,
+        [1, 1, 2],
+    ),
     (Step::Time(100), Said::Nothing, [1, 1, 2]),
     (Step::Other(Delete(0)), Said::Freed(0), [0, 1, 2]),
     (Step::Time(300), Said::Event, [0, 1, 2]),
     (Step::Output(1, 3, None), Said::JobFailed, [0, 1, 2]),
-    (Step::Retrieve(0, None, Tier::Bulk), Said::NoArchive(0), [0, 1, 2]),
+    (
+        Step::Retrieve(0, None, Tier::Bulk),
+        Said::NoArchive(0),
+        [0, 1, 2],
+    ),
 ];
 
 /// One that is deleted after that: its block stays in use as long as the job.
 const HELD: [Row; 9] = [
     (Step::Other(Upload(3, 1, 9)), Said::Event, [1, 0, 1]),
-    (Step::Retrieve(0, None, Tier::Expedited), Said::Event, [1, 1, 2]),
+    (
+        Step::Retrieve(0, None, Tier::Expedited),
+        Said::Event,
+        [1, 1, 2],
+    ),
     (Step::Time(300), Said::Event, [1, 1, 2]),
     (Step::Time(400), Said::Nothing, [1, 1, 2]),
     (Step::Other(Delete(0)), Said::Event, [1, 1, 2]),
@@ -102,14 +138,42 @@ const HELD: [Row; 9] = [
 /// Ranges of an archive of 5 MiB, and of the output of a job that has all of it.
 const RANGES: [Row; 13] = [
     (Step::Other(Upload(5 * MIB, 1, 9)), Said::Event, [5, 0, 1]),
-    (Step::Retrieve(0, Some((0, MIB - 2)), Tier::Bulk), Said::BadJobRange, [5, 0, 1]),
-    (Step::Retrieve(0, Some((1, MIB - 1)), Tier::Bulk), Said::BadJobRange, [5, 0, 1]),
-    (Step::Retrieve(0, Some((4 * MIB, 5 * MIB)), Tier::Bulk), Said::BadJobRange, [5, 0, 1]),
-    (Step::Retrieve(0, Some((4 * MIB, 5 * MIB - 1)), Tier::Bulk), Said::Event, [5, 1, 2]),
-    (Step::Retrieve(0, Some((0, 5 * MIB - 1)), Tier::Expedited), Said::Event, [5, 2, 3]),
+    (
+        Step::Retrieve(0, Some((0, MIB - 2)), Tier::Bulk),
+        Said::BadJobRange,
+        [5, 0, 1],
+    ),
+    (
+        Step::Retrieve(0, Some((1, MIB - 1)), Tier::Bulk),
+        Said::BadJobRange,
+        [5, 0, 1],
+    ),
+    (
+        Step::Retrieve(0, Some((4 * MIB, 5 * MIB)), Tier::Bulk),
+        Said::BadJobRange,
+        [5, 0, 1],
+    ),
+    (
+        Step::Retrieve(0, Some((4 * MIB, 5 * MIB - 1)), Tier::Bulk),
+        Said::Event,
+        [5, 1, 2],
+    ),
+    (
+        Step::Retrieve(0, Some((0, 5 * MIB - 1)), Tier::Expedited),
+        Said::Event,
+        [5, 2, 3],
+    ),
     (Step::Time(300), Said::Event, [5, 2, 3]),
-    (Step::Output(2, 5 * MIB, None), Said::Bytes(0, 5_242_880), [5, 2, 3]),
-    (Step::Output(2, 5 * MIB, Some((0, 9))), Said::Bytes(0, 10), [5, 2, 3]),
+    (
+        Step::Output(2, 5 * MIB, None),
+        Said::Bytes(0, 5_242_880),
+        [5, 2, 3],
+    ),
+    (
+        Step::Output(2, 5 * MIB, Some((0, 9))),
+        Said::Bytes(0, 10),
+        [5, 2, 3],
+    ),
     (
         Step::Output(2, 5 * MIB, Some((5_242_879, 5_242_879))),
         Said::Bytes(5_242_879, 5_242_880),
@@ -121,12 +185,20 @@ const RANGES: [Row; 13] = [
         [5, 2, 3],
     ),
     (Step::Other(Upload(MIB + 1, 1, 9)), Said::Event, [7, 2, 4]),
-    (Step::Retrieve(3, Some((MIB, MIB)), Tier::Bulk), Said::Event, [7, 3, 5]),
+    (
+        Step::Retrieve(3, Some((MIB, MIB)), Tier::Bulk),
+        Said::Event,
+        [7, 3, 5],
+    ),
 ];
 
 /// In an account without a vault.
 const NOWHERE: [Row; 3] = [
-    (Step::Retrieve(0, None, Tier::Bulk), Said::NoVault, [0, 0, 0]),
+    (
+        Step::Retrieve(0, None, Tier::Bulk),
+        Said::NoVault,
+        [0, 0, 0],
+    ),
     (Step::Inventory, Said::NoVault, [0, 0, 0]),
     (Step::Output(0, 3, None), Said::NoVault, [0, 0, 0]),
 ];

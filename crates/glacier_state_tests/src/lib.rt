@@ -5,6 +5,10 @@
 #[cfg(test)]
 mod archive_tests;
 #[cfg(test)]
+mod body_calls;
+#[cfg(test)]
+mod body_tests;
+#[cfg(test)]
 mod extents_tests;
 #[cfg(test)]
 mod ground;
@@ -28,6 +32,8 @@ mod past;
 mod past_tests;
 #[cfg(test)]
 mod policy_tests;
+#[cfg(test)]
+mod record_tests;
 #[cfg(test)]
 mod upload_calls;
 #[cfg(test)]

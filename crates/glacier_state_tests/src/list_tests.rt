@@ -11,7 +11,9 @@ fn add(alloc: Global, state: &mut AccountState, name: &VaultName) -> Result<(), 
     requires { IsLawful state.old }
     ensures { OnOk result (IsLawful state.new) }
 {
-    let m = state.last.later(Moment::new(1_337_905_493).unwrap_or(state.last));
+    let m = state
+        .last
+        .later(Moment::new(1_337_905_493).unwrap_or(state.last));
     let _ = create(alloc, state, m, name)?;
     Ok(())
 }

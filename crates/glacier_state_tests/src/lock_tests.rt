@@ -1,4 +1,4 @@
-// What locks answer and deny, one call after another, by hand from docs/rules/vault-machine.md and
+// What locks answer and deny, one call after another, by hand from docs/rules/locks.md and
 // docs/rules/policies.md.
 ghost use Rattle.std.specs.Prelude.{OnOk};
 ghost use Rattle.glacier_vault.specs.Lawful.{IsLawful};
@@ -57,7 +57,11 @@ const LOCKED: [Row; 17] = [
     (Step::Show, Said::NoLock, 0),
     (Step::Complete(0), Said::NoLock, 0),
     (Step::Abort, Said::Nothing, 0),
-    (Step::Initiate(STRING_LIKE), Said::BadPolicy(PolicyFault::UnknownOperator), 0),
+    (
+        Step::Initiate(STRING_LIKE),
+        Said::BadPolicy(PolicyFault::UnknownOperator),
+        0,
+    ),
     (Step::Initiate(YEAR), Said::Event, 1),
     (Step::Show, Said::Lock(0, false), 1),
     (Step::Initiate(YEAR), Said::Pending, 1),

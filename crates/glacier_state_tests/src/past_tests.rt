@@ -1,5 +1,5 @@
 // Kept events that are done again, one after another on one account, by hand from
-// docs/rules/vault-machine.md: which fit, what they free and what they leave.
+// docs/rules/kept-events.md: which fit, what they free and what they leave.
 ghost use Rattle.std.specs.Prelude.{OnOk};
 ghost use Rattle.glacier_vault.specs.Lawful.{IsLawful};
 
@@ -56,7 +56,12 @@ const JOBS: [Row; 15] = [
     (301, Past::DeleteArchive(5), Some(&[3, 4]), [1, 0, 2, 11]),
     (86_700, Past::Pass, Some(&[0]), [0, 0, 0, 11]),
     (86_700, Past::Upload(MIB + 1), Some(&[]), [2, 0, 0, 12]),
-    (86_700, Past::BeginRetrieval(11, 0, 1), Some(&[]), [2, 0, 1, 13]),
+    (
+        86_700,
+        Past::BeginRetrieval(11, 0, 1),
+        Some(&[]),
+        [2, 0, 1, 13],
+    ),
     (86_700, Past::DeleteVault("v"), None, [2, 0, 1, 13]),
     (86_701, Past::Pass, Some(&[]), [2, 0, 0, 13]),
     (86_701, Past::DeleteArchive(11), Some(&[11]), [0, 0, 0, 13]),
@@ -68,11 +73,21 @@ const LOCKS: [Row; 16] = [
     (86_701, Past::CreateVault("w"), Some(&[]), [0, 0, 0, 13]),
     (86_701, Past::InitiateLock("w", "{}"), None, [0, 0, 0, 13]),
     (86_701, Past::CompleteLock("w"), None, [0, 0, 0, 13]),
-    (86_701, Past::InitiateLock("w", YEAR), Some(&[]), [0, 0, 0, 14]),
+    (
+        86_701,
+        Past::InitiateLock("w", YEAR),
+        Some(&[]),
+        [0, 0, 0, 14],
+    ),
     (86_701, Past::InitiateLock("w", YEAR), None, [0, 0, 0, 14]),
     (86_701, Past::AbortLock("w"), Some(&[]), [0, 0, 0, 14]),
     (86_701, Past::AbortLock("w"), None, [0, 0, 0, 14]),
-    (86_701, Past::InitiateLock("w", YEAR), Some(&[]), [0, 0, 0, 15]),
+    (
+        86_701,
+        Past::InitiateLock("w", YEAR),
+        Some(&[]),
+        [0, 0, 0, 15],
+    ),
     (86_701, Past::CompleteLock("w"), Some(&[]), [0, 0, 0, 15]),
     (86_701, Past::CompleteLock("w"), None, [0, 0, 0, 15]),
     (86_701, Past::AbortLock("w"), None, [0, 0, 0, 15]),

@@ -10,9 +10,7 @@ use glacier_upload::{
     Found, MOST_BLOCKS, PartAsk, UploadAsk, abort, admit_part, admit_upload, begin, commit_part,
     commit_upload, complete,
 };
-use glacier_vault::{
-    AccountState, Change, Refusal, blocks_of, delete_archive, used,
-};
+use glacier_vault::{AccountState, Change, Refusal, blocks_of, delete_archive, used};
 use std::alloc::Global;
 
 /// A call. The leaves of a body are of 32 bytes `leaf`, and its SHA-256 is 32 bytes 9.

@@ -1,0 +1,5 @@
+use Rattle.glacier_vault.specs.Lawful.{IsLawful}
+use Rattle.glacier_state_tests.proofs.limit_tests.begun.Given as goal
+
+abbrev pub invariant-loop-number : goal.invariant-loop-number
+invariant-loop-number l = IsLawful l.state
