@@ -1,13 +1,14 @@
 // Bodies and the blocks that they are taken into, for tests.
-ghost use Rattle.std.specs.Prelude.{◌≡◌, ◌+◌, ◌≤◌, ◌<◌, ℕ, List as Items, true, length, IfSome};
+ghost use Rattle.std.specs.Prelude.{◌≡◌, ◌+◌, ◌≤◌, ◌<◌, ℕ, List as Items, None, true, length, IfSome};
 ghost use Rattle.std.specs.Int.{div_ceil};
 ghost use Rattle.glacier_extents.specs.declared.run.Run.{Run as RunOf};
 ghost use Rattle.glacier_extents.specs.Runs.{block_count};
-ghost use Rattle.glacier_bodies.specs.BlobAreas.{IsOpen};
+ghost use Rattle.glacier_bodies.specs.BlobAreas.{IsOpen, with_blob};
 ghost use Rattle.glacier_bodies.specs.Bodies.{body_room, body_runs, body_taken};
+ghost use Rattle.glacier_bodies.specs.Stands.{at_blob};
 
-use glacier_base::List;
-use glacier_bodies::{BlobArea, Body, Found, Layout};
+use glacier_base::{Account, List};
+use glacier_bodies::{BlobArea, Body, Found, Layout, read_blob};
 use glacier_disk::Disk;
 use glacier_extents::{BLOCK, Run};
 use glacier_treehash::Open;
@@ -68,12 +69,52 @@ pub(crate) fn stored<D: Disk, R: Threads + Sync>(
     ensures count { IfSome result (λ stored.
         block_count stored.1 ≡ div_ceil (length bytes.now) BLOCK) }
     ensures blobs { area.new.blobs ≡ area.old.blobs }
+    ensures others { IfSome result (λ _. (runs : Items RunOf) → IsOpen area.old runs →
+        IsOpen area.new runs) }
 {
     let mut body = begun(area, alloc, bytes.len() as u64)?;
     if !takes(rt, area, disk, &mut body, bytes) {
         return None;
     }
     Some(body.finish())
+}
+
+/// Stores a blob of an account: whether it did.
+pub(crate) fn puts<D: Disk, R: Threads + Sync>(
+    rt: &R,
+    alloc: Global,
+    area: &mut BlobArea,
+    disk: &mut D,
+    account: &Account,
+    number: u64,
+    bytes: &[u8],
+) -> bool
+    requires open { (D.told disk.old).opened ≡ true }
+    requires some { 0 < length bytes.now }
+    requires fresh { at_blob area.old.blobs account.now number ≡ None }
+    ensures open { (D.told disk.new).opened ≡ true }
+    ensures put { result ≡ true → (runs : Items RunOf)
+        × (block_count runs ≡ div_ceil (length bytes.now) BLOCK)
+        × (area.new.blobs ≡ with_blob area.old.blobs account.now number runs) }
+{
+    match stored(rt, alloc, area, disk, bytes) {
+        Some((_, layout)) => area.name_blob(alloc, *account, number, layout).is_ok(),
+        None => false,
+    }
+}
+
+/// Whether the bytes at a place of a blob are these, at most 8.
+pub(crate) fn are_at<D: Disk>(disk: &mut D, layout: &Layout, at: u64, bytes: &[u8]) -> bool
+    requires { (D.told disk.old).opened ≡ true }
+    ensures { (D.told disk.new).opened ≡ true }
+{
+    let end = at.saturating_add(bytes.len() as u64);
+    if bytes.len() > 8 || end > u64::from(layout.count()) * BLOCK {
+        return false;
+    }
+    let mut into = [0; 8];
+    let is_read = read_blob(disk, layout, at, &mut into[..bytes.len()]);
+    is_read.is_ok() && &into[..bytes.len()] == bytes
 }
 
 /// Whether these are the runs, each by its first block and how many it has.

@@ -1,10 +1,13 @@
 // Which blocks bodies are taken into, and what is read back of them, by hand from
 // docs/rules/blocks.md. The digests are by Python's hashlib; byte i is that of "abcdefg" at i mod 7.
-ghost use Rattle.std.specs.Prelude.{◌≡◌, true};
+ghost use Rattle.std.specs.Prelude.{◌≡◌, ◌<◌, None, false, true, length};
+ghost use Rattle.std.specs.FinMap as map;
+ghost use Rattle.glacier_bodies.specs.BlobAreas.{IsOpen};
+ghost use Rattle.glacier_bodies.specs.Stands.{at_blob};
 
-use crate::body_calls::{are, begun, stored, takes};
+use crate::body_calls::{are, are_at, begun, puts, stored, takes};
 use glacier_base::{Account, Digest, Memory};
-use glacier_bodies::{BlobArea, Found, read_blob};
+use glacier_bodies::{BlobArea, Found, Layout, read_blob};
 use glacier_disk::{Disk, MemPlan, MemStation};
 use std::alloc::Global;
 use std::thread::Threads;
@@ -43,70 +46,132 @@ fn is_found(found: &Found, linear: &str, leaves: &[&str]) -> bool {
     is_shown(&found.linear, linear)
 }
 
-/// Stores a blob of 7 bytes, frees it, and stores one of a byte more than a MiB.
+/// Names a blob and frees it: whether all blocks are free then, and only then.
+fn is_freed(alloc: Global, area: &mut BlobArea, account: &Account, layout: Layout) -> bool
+    requires open { IsOpen area.old layout }
+    requires fresh { at_blob area.old.blobs account.now 0 ≡ None }
+{
+    if area.name_blob(alloc, *account, 0, layout).is_err() {
+        return false;
+    }
+    let left = area.free();
+    area.free_blob(account, 0);
+    left == BLOCKS - 1 && area.free() == BLOCKS
+}
+
+/// Stores a blob of 7 bytes in block 0, and frees it.
+fn another_is_freed<D: Disk, R: Threads + Sync>(
+    rt: &R,
+    alloc: Global,
+    area: &mut BlobArea,
+    disk: &mut D,
+    account: &Account,
+) -> bool
+    requires open { (D.told disk.old).opened ≡ true }
+    requires fresh { at_blob area.old.blobs account.now 0 ≡ None }
+    ensures { (D.told disk.new).opened ≡ true }
+{
+    match stored(rt, alloc, area, disk, b"another") {
+        Some((found, layout)) => {
+            are(layout.runs(), &[(0, 1)])
+                && is_found(&found, OF_ANOTHER, &[OF_ANOTHER])
+                && is_freed(alloc, area, account, layout)
+        }
+        None => false,
+    }
+}
+
+/// Stores one of a byte more than a MiB behind that.
 fn are_taken_again<D: Disk, R: Threads + Sync>(
     rt: &R,
     alloc: Global,
     disk: &mut D,
     bytes: &[u8],
-) -> Option<bool>
-    requires { (D.told disk.old).opened ≡ true }
+) -> bool
+    requires closed { (D.told disk.old).opened ≡ false }
+    requires some { 0 < length bytes.now }
 {
-    if bytes.len() < MIB + 1 {
-        return None;
+    if disk.open("here").is_err() {
+        return false;
     }
-    let mut area = BlobArea::new(alloc).ok()?;
-    let (found, layout) = stored(rt, alloc, &mut area, disk, b"another")?;
-    if !are(layout.runs(), &[(0, 1)]) || !is_found(&found, OF_ANOTHER, &[OF_ANOTHER]) {
-        return Some(false);
+    let Ok(mut area) = BlobArea::new(alloc) else {
+        return false;
+    };
+    if !another_is_freed(rt, alloc, &mut area, disk, &ACCOUNT) {
+        return false;
     }
-    area.name_blob(alloc, ACCOUNT, 0, layout).ok()?;
-    let left = area.free();
-    area.free_blob(&ACCOUNT, 0);
-    if left != BLOCKS - 1 || area.free() != BLOCKS {
-        return Some(false);
+    match stored(rt, alloc, &mut area, disk, bytes) {
+        Some((_, layout)) => are(layout.runs(), &[(0, 2)]) && area.free() == BLOCKS - 2,
+        None => false,
     }
-    let (_, layout) = stored(rt, alloc, &mut area, disk, &bytes[..MIB + 1])?;
-    Some(are(layout.runs(), &[(0, 2)]) && area.free() == BLOCKS - 2)
 }
 
-/// Two bodies that take their pieces in turns: the first of a MiB and 5 bytes, the second of 7.
+/// What two bodies came to: the first's digests and blocks, and the other's blocks.
+#[derive(Drop)]
+struct Two {
+    found: Found,
+    layout: Layout,
+    other: Layout,
+}
+
+/// A body of a MiB and 5 bytes, in two pieces, and between them another of 7 bytes.
+fn two_bodies<D: Disk, R: Threads + Sync>(
+    rt: &R,
+    alloc: Global,
+    area: &mut BlobArea,
+    disk: &mut D,
+    bytes: &[u8],
+) -> Option<Two>
+    requires open { (D.told disk.old).opened ≡ true }
+    requires size { length bytes.now ≡ 1_048_581 }
+    ensures { (D.told disk.new).opened ≡ true }
+{
+    let mut body = begun(area, alloc, 1_048_581)?;
+    if !takes(rt, area, disk, &mut body, &bytes[..MIB]) {
+        return None;
+    }
+    let (_, other) = stored(rt, alloc, area, disk, b"another")?;
+    if !takes(rt, area, disk, &mut body, &bytes[MIB..]) {
+        return None;
+    }
+    let (found, layout) = body.finish();
+    Some(Two {
+        found,
+        layout,
+        other,
+    })
+}
+
+/// Whether each of the two bodies has its own blocks and bytes.
+fn are_apart<D: Disk>(disk: &mut D, two: &Two) -> bool
+    requires { (D.told disk.old).opened ≡ true }
+{
+    are(two.layout.runs(), &[(0, 2)])
+        && are(two.other.runs(), &[(2, 1)])
+        && is_found(&two.found, OF_ALL, &[OF_FIRST, OF_REST])
+        && are_at(disk, &two.layout, 1_048_573, b"bcdefgab")
+        && are_at(disk, &two.other, 0, b"another")
+}
+
 fn are_kept_apart<D: Disk, R: Threads + Sync>(
     rt: &R,
     alloc: Global,
     disk: &mut D,
     bytes: &[u8],
-) -> Option<bool>
-    requires { (D.told disk.old).opened ≡ true }
+) -> bool
+    requires closed { (D.told disk.old).opened ≡ false }
+    requires size { length bytes.now ≡ 1_048_581 }
 {
-    if bytes.len() < MIB + 5 {
-        return None;
+    if disk.open("here").is_err() {
+        return false;
     }
-    let mut area = BlobArea::new(alloc).ok()?;
-    let mut first = begun(&mut area, alloc, 1_048_581)?;
-    let mut second = begun(&mut area, alloc, 7)?;
-    if !takes(rt, &area, disk, &mut first, &bytes[..MIB]) {
-        return None;
+    let Ok(mut area) = BlobArea::new(alloc) else {
+        return false;
+    };
+    match &two_bodies(rt, alloc, &mut area, disk, bytes) {
+        Some(two) => are_apart(disk, two),
+        None => false,
     }
-    if !takes(rt, &area, disk, &mut second, b"another") {
-        return None;
-    }
-    if !takes(rt, &area, disk, &mut first, &bytes[MIB..MIB + 5]) {
-        return None;
-    }
-    let (found, layout) = first.finish();
-    let (_, other) = second.finish();
-    let mut at_end = [0; 8];
-    let mut whole = [0; 7];
-    read_blob(disk, &layout, 1_048_573, &mut at_end).ok()?;
-    read_blob(disk, &other, 0, &mut whole).ok()?;
-    Some(
-        are(layout.runs(), &[(0, 2)])
-            && are(other.runs(), &[(2, 1)])
-            && is_found(&found, OF_ALL, &[OF_FIRST, OF_REST])
-            && at_end.as_slice() == b"bcdefgab".as_slice()
-            && whole.as_slice() == b"another".as_slice(),
-    )
 }
 
 /// A body that is cut after its first MiB: the next one takes its blocks.
@@ -116,9 +181,9 @@ fn is_dropped<D: Disk, R: Threads + Sync>(
     disk: &mut D,
     bytes: &[u8],
 ) -> Option<bool>
-    requires { (D.told disk.old).opened ≡ true }
+    requires { (D.told disk.old).opened ≡ false }
 {
-    if bytes.len() < MIB {
+    if bytes.len() < MIB || disk.open("here").is_err() {
         return None;
     }
     let mut area = BlobArea::new(alloc).ok()?;
@@ -141,34 +206,34 @@ fn is_dropped<D: Disk, R: Threads + Sync>(
 fn is_read_across<D: Disk, R: Threads + Sync>(
     rt: &R,
     alloc: Global,
+    area: &mut BlobArea,
     disk: &mut D,
     bytes: &[u8],
-) -> Option<bool>
-    requires { (D.told disk.old).opened ≡ true }
+) -> bool
+    requires open { (D.told disk.old).opened ≡ true }
+    requires size { length bytes.now ≡ 1_048_576 }
+    requires empty { area.old.blobs ≡ map.empty }
 {
-    if bytes.len() < MIB {
-        return None;
+    let first = puts(rt, alloc, area, disk, &ACCOUNT, 4, bytes);
+    if !first || !puts(rt, alloc, area, disk, &ACCOUNT, 9, b"another") {
+        return false;
     }
-    let mut area = BlobArea::new(alloc).ok()?;
-    let (_, layout) = stored(rt, alloc, &mut area, disk, &bytes[..MIB])?;
-    area.name_blob(alloc, ACCOUNT, 4, layout).ok()?;
-    let (_, layout) = stored(rt, alloc, &mut area, disk, b"another")?;
-    area.name_blob(alloc, ACCOUNT, 9, layout).ok()?;
     let mut into = [0; 6];
-    area.read(disk, &ACCOUNT, &[4, 9], 1_048_573, &mut into)
-        .ok()?;
-    Some(into.as_slice() == b"bcdano".as_slice())
+    let numbers = [4, 9];
+    let is_read = area.read(disk, &ACCOUNT, &numbers, 1_048_573, &mut into);
+    is_read.is_ok() && into.as_slice() == b"bcdano".as_slice()
 }
 
-/// Opens a station in memory and tries on it what is given.
-fn station(alloc: Global) -> Option<MemStation>
-    ensures { Rattle.std.specs.Prelude.IfSome result (λ station. (MemStation.told station).opened ≡ true) }
+fn are_joined<D: Disk, R: Threads + Sync>(rt: &R, alloc: Global, disk: &mut D, bytes: &[u8]) -> bool
+    requires closed { (D.told disk.old).opened ≡ false }
+    requires size { length bytes.now ≡ 1_048_576 }
 {
-    let mut station = MemStation::new(alloc, MemPlan::empty(alloc)).ok()?;
-    if station.open("here").is_ok() {
-        Some(station)
-    } else {
-        None
+    if disk.open("here").is_err() {
+        return false;
+    }
+    match BlobArea::new(alloc) {
+        Ok(mut area) => is_read_across(rt, alloc, &mut area, disk, bytes),
+        Err(_) => false,
     }
 }
 
@@ -176,8 +241,10 @@ fn station(alloc: Global) -> Option<MemStation>
 fn freed_blocks_are_taken_again(rt: HostRuntime) -> Result<(), Memory> {
     let alloc = rt.alloc();
     let text = "abcdefg".repeat(alloc, 149_798)?;
-    let mut disk = station(alloc).expect(&rt, "a station");
-    assert!(rt; are_taken_again(&rt, alloc, &mut disk, text.as_bytes()) == Some(true));
+    let bytes = text.as_bytes();
+    assert!(rt; bytes.len() >= 1_048_577);
+    let mut disk = MemStation::new(alloc, MemPlan::empty(alloc))?;
+    assert!(rt; are_taken_again(&rt, alloc, &mut disk, &bytes[..1_048_577]));
     Ok(())
 }
 
@@ -185,17 +252,10 @@ fn freed_blocks_are_taken_again(rt: HostRuntime) -> Result<(), Memory> {
 fn bodies_are_open_side_by_side(rt: HostRuntime) -> Result<(), Memory> {
     let alloc = rt.alloc();
     let text = "abcdefg".repeat(alloc, 149_798)?;
-    let mut disk = station(alloc).expect(&rt, "a station");
-    assert!(rt; are_kept_apart(&rt, alloc, &mut disk, text.as_bytes()) == Some(true));
-    Ok(())
-}
-
-#[test]
-fn a_dropped_body_leaves_its_blocks(rt: HostRuntime) -> Result<(), Memory> {
-    let alloc = rt.alloc();
-    let text = "abcdefg".repeat(alloc, 149_798)?;
-    let mut disk = station(alloc).expect(&rt, "a station");
-    assert!(rt; is_dropped(&rt, alloc, &mut disk, text.as_bytes()) == Some(true));
+    let bytes = text.as_bytes();
+    assert!(rt; bytes.len() >= 1_048_581);
+    let mut disk = MemStation::new(alloc, MemPlan::empty(alloc))?;
+    assert!(rt; are_kept_apart(&rt, alloc, &mut disk, &bytes[..1_048_581]));
     Ok(())
 }
 
@@ -203,7 +263,18 @@ fn a_dropped_body_leaves_its_blocks(rt: HostRuntime) -> Result<(), Memory> {
 fn blobs_are_read_one_after_another(rt: HostRuntime) -> Result<(), Memory> {
     let alloc = rt.alloc();
     let text = "abcdefg".repeat(alloc, 149_798)?;
-    let mut disk = station(alloc).expect(&rt, "a station");
-    assert!(rt; is_read_across(&rt, alloc, &mut disk, text.as_bytes()) == Some(true));
+    let bytes = text.as_bytes();
+    assert!(rt; bytes.len() >= 1_048_576);
+    let mut disk = MemStation::new(alloc, MemPlan::empty(alloc))?;
+    assert!(rt; are_joined(&rt, alloc, &mut disk, &bytes[..1_048_576]));
+    Ok(())
+}
+
+#[test]
+fn a_dropped_body_leaves_its_blocks(rt: HostRuntime) -> Result<(), Memory> {
+    let alloc = rt.alloc();
+    let text = "abcdefg".repeat(alloc, 149_798)?;
+    let mut disk = MemStation::new(alloc, MemPlan::empty(alloc))?;
+    assert!(rt; is_dropped(&rt, alloc, &mut disk, text.as_bytes()) == Some(true));
     Ok(())
 }

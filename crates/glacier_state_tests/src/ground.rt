@@ -75,6 +75,7 @@ pub(crate) fn at_the_end(alloc: Global, ground: &Ground) -> Result<AccountState,
 }
 
 /// An account without vaults, whose numbers are used up.
+#[tactic(auto, using(crate::proofs::CounterLemmas::empty_lawful_at))]
 fn used_up(alloc: Global) -> AccountState
     ensures { IsLawful result }
 {

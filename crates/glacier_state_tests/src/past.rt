@@ -1,4 +1,5 @@
 // Events that were kept, for tests.
+use crate::policy_tests::YEAR;
 use glacier_base::{Description, Digest, List, Moment, Text, VaultName};
 use glacier_vault::{Event, Tier, blocks_of};
 use std::alloc::Global;
@@ -21,8 +22,8 @@ pub(crate) enum Past {
     /// A retrieval: its archive, its first byte and the one behind its last.
     BeginRetrieval(u64, u64, u64),
     BeginInventory,
-    /// A lock of a policy's text.
-    InitiateLock(&'static str, &'static str),
+    /// A lock, and whether its text is a policy.
+    InitiateLock(&'static str, bool),
     CompleteLock(&'static str),
     AbortLock(&'static str),
 }
@@ -92,13 +93,19 @@ fn job_event(name: VaultName, past: Past) -> Option<Event> {
     }
 }
 
+/// A text that is a policy, or one that isn't.
+fn policy_of(alloc: Global, is_policy: bool) -> Option<Text> {
+    let text = if is_policy { YEAR } else { "{}" };
+    Text::of(alloc, text.as_bytes()).ok()
+}
+
 /// An event that makes or ends a lock.
 fn lock_event(alloc: Global, name: &str, past: Past) -> Option<Event> {
     let name = VaultName::parse(name.as_bytes())?;
     match past {
-        Past::InitiateLock(_, text) => Some(Event::InitiateLock {
+        Past::InitiateLock(_, is_policy) => Some(Event::InitiateLock {
             name,
-            policy: Text::of(alloc, text.as_bytes()).ok()?,
+            policy: policy_of(alloc, is_policy)?,
         }),
         Past::CompleteLock(_) => Some(Event::CompleteLock { name }),
         Past::AbortLock(_) => Some(Event::AbortLock { name }),

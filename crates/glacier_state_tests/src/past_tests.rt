@@ -4,7 +4,6 @@ ghost use Rattle.std.specs.Prelude.{OnOk};
 ghost use Rattle.glacier_vault.specs.Lawful.{IsLawful};
 
 use crate::past::{Past, event_of};
-use crate::policy_tests::YEAR;
 use glacier_base::{Memory, Moment};
 use glacier_replay::replay;
 use glacier_vault::AccountState;
@@ -69,22 +68,22 @@ const JOBS: [Row; 15] = [
 
 /// Locks in another vault, and the deletion of vaults.
 const LOCKS: [Row; 16] = [
-    (86_701, Past::InitiateLock("w", YEAR), None, [0, 0, 0, 13]),
+    (86_701, Past::InitiateLock("w", true), None, [0, 0, 0, 13]),
     (86_701, Past::CreateVault("w"), Some(&[]), [0, 0, 0, 13]),
-    (86_701, Past::InitiateLock("w", "{}"), None, [0, 0, 0, 13]),
+    (86_701, Past::InitiateLock("w", false), None, [0, 0, 0, 13]),
     (86_701, Past::CompleteLock("w"), None, [0, 0, 0, 13]),
     (
         86_701,
-        Past::InitiateLock("w", YEAR),
+        Past::InitiateLock("w", true),
         Some(&[]),
         [0, 0, 0, 14],
     ),
-    (86_701, Past::InitiateLock("w", YEAR), None, [0, 0, 0, 14]),
+    (86_701, Past::InitiateLock("w", true), None, [0, 0, 0, 14]),
     (86_701, Past::AbortLock("w"), Some(&[]), [0, 0, 0, 14]),
     (86_701, Past::AbortLock("w"), None, [0, 0, 0, 14]),
     (
         86_701,
-        Past::InitiateLock("w", YEAR),
+        Past::InitiateLock("w", true),
         Some(&[]),
         [0, 0, 0, 15],
     ),
@@ -154,14 +153,44 @@ fn replayed(alloc: Global, state: &mut AccountState, rows: &[Row]) -> Result<usi
     Ok(rows.len())
 }
 
+/// How many rows of the first table do so.
+fn uploads_again(alloc: Global, state: &mut AccountState) -> Result<usize, Memory>
+    requires { IsLawful state.old }
+    ensures { OnOk result (IsLawful state.new) }
+{
+    replayed(alloc, state, &UPLOADS)
+}
+
+/// How many of the second.
+fn jobs_again(alloc: Global, state: &mut AccountState) -> Result<usize, Memory>
+    requires { IsLawful state.old }
+    ensures { OnOk result (IsLawful state.new) }
+{
+    replayed(alloc, state, &JOBS)
+}
+
+/// How many of the third.
+fn locks_again(alloc: Global, state: &mut AccountState) -> Result<usize, Memory>
+    requires { IsLawful state.old }
+    ensures { OnOk result (IsLawful state.new) }
+{
+    replayed(alloc, state, &LOCKS)
+}
+
 #[test]
 fn each_kind_of_event_is_done_again(rt: HostRuntime) -> Result<(), Memory> {
     let alloc = rt.alloc();
     let mut state = AccountState::new(alloc);
-    assert_eq!(rt; replayed(alloc, &mut state, &UPLOADS)?, 22);
-    assert_eq!(rt; replayed(alloc, &mut state, &JOBS)?, 15);
-    assert_eq!(rt; replayed(alloc, &mut state, &LOCKS)?, 16);
+    assert_eq!(rt; uploads_again(alloc, &mut state)?, 22);
+    assert_eq!(rt; jobs_again(alloc, &mut state)?, 15);
+    assert_eq!(rt; locks_again(alloc, &mut state)?, 16);
     assert!(rt; state.vaults.len() == 1 && state.last.seconds() == 86_701);
+    Ok(())
+}
+
+#[test]
+fn a_vault_goes_with_what_it_holds(rt: HostRuntime) -> Result<(), Memory> {
+    let alloc = rt.alloc();
     let mut state = AccountState::new(alloc);
     assert_eq!(rt; replayed(alloc, &mut state, &HELD)?, 6);
     Ok(())
