@@ -237,10 +237,16 @@ fn are_joined<D: Disk, R: Threads + Sync>(rt: &R, alloc: Global, disk: &mut D, b
     }
 }
 
+/// A MiB and 10 bytes of letters. No clause speaks of them: a proof would compute so long a text.
+fn letters(alloc: Global) -> Result<String, Memory> {
+    let text = "abcdefg".repeat(alloc, 149_798)?;
+    Ok(text)
+}
+
 #[test]
 fn freed_blocks_are_taken_again(rt: HostRuntime) -> Result<(), Memory> {
     let alloc = rt.alloc();
-    let text = "abcdefg".repeat(alloc, 149_798)?;
+    let text = letters(alloc)?;
     let bytes = text.as_bytes();
     assert!(rt; bytes.len() >= 1_048_577);
     let mut disk = MemStation::new(alloc, MemPlan::empty(alloc))?;
@@ -251,7 +257,7 @@ fn freed_blocks_are_taken_again(rt: HostRuntime) -> Result<(), Memory> {
 #[test]
 fn bodies_are_open_side_by_side(rt: HostRuntime) -> Result<(), Memory> {
     let alloc = rt.alloc();
-    let text = "abcdefg".repeat(alloc, 149_798)?;
+    let text = letters(alloc)?;
     let bytes = text.as_bytes();
     assert!(rt; bytes.len() >= 1_048_581);
     let mut disk = MemStation::new(alloc, MemPlan::empty(alloc))?;
@@ -262,7 +268,7 @@ fn bodies_are_open_side_by_side(rt: HostRuntime) -> Result<(), Memory> {
 #[test]
 fn blobs_are_read_one_after_another(rt: HostRuntime) -> Result<(), Memory> {
     let alloc = rt.alloc();
-    let text = "abcdefg".repeat(alloc, 149_798)?;
+    let text = letters(alloc)?;
     let bytes = text.as_bytes();
     assert!(rt; bytes.len() >= 1_048_576);
     let mut disk = MemStation::new(alloc, MemPlan::empty(alloc))?;
@@ -273,7 +279,7 @@ fn blobs_are_read_one_after_another(rt: HostRuntime) -> Result<(), Memory> {
 #[test]
 fn a_dropped_body_leaves_its_blocks(rt: HostRuntime) -> Result<(), Memory> {
     let alloc = rt.alloc();
-    let text = "abcdefg".repeat(alloc, 149_798)?;
+    let text = letters(alloc)?;
     let mut disk = MemStation::new(alloc, MemPlan::empty(alloc))?;
     assert!(rt; is_dropped(&rt, alloc, &mut disk, text.as_bytes()) == Some(true));
     Ok(())
