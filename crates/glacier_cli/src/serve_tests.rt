@@ -183,7 +183,7 @@ const PUT_IN_EUROPE: &str = "PUT /-/vaults/examplevault HTTP/1.1\r\n\
     Authorization: AWS4-HMAC-SHA256 Credential=AKIDEXAMPLE/20120525/eu-west-1/glacier/aws4_request, SignedHeaders=host;x-amz-date;x-amz-glacier-version, Signature=36eda47c8a21d2d5201c027b80d21a08cc2b5fa726e5f948cb3dab7d9036bdc1\r\n\r\n";
 
 /// Options behind those of the address and the store, what comes, what is printed and what is sent.
-const OPTIONS: [(&str, &[&str], &str, &str); 8] = [
+const OPTIONS: [(&str, &[&str], &str, &str); 7] = [
     (
         "--connections 1",
         &[PUT, GET],
