@@ -38,7 +38,7 @@ returns-in-Ok-serve-clause-ends g c =
         disk = shows.1 ∙ call.disk.faults ∙ c.in-Ok.ensures.counts;
         listener = shows.0 ∙ faults ∙ ap (λ (l : Listener). l.faults) alone.listener;
       },
-      λ t. serves_at g.S.Disk.tells c.args.ring words c.in-Ok.store (before t) (c.in-Ok.ensures.begins t).starts c.config_of.ensures
+      λ t. serves_at g.S.Disk.tells c.args.ring words c.in-Ok.store (before t) (c.in-Ok.ensures.begins t).starts c.config_of-config.ensures
           (still_kept call.disk.rests.crash (c.in-Ok.ensures.begins t).kept) (opens t) (c.in-Ok-serve.ensures.served t) (c.in-Ok-serve.ensures.fewer t),
     )
 
@@ -52,7 +52,7 @@ returns-in-Ok-serve-clause-headline g c t =
     let alone = g.met.S.Disk.by_disk_keeps c.args.station.now c.begin.new.disk c.begin.ensures.alone in
     let begins = c.in-Ok.ensures.begins t in
     served_on g.S.Disk.tells c.args.ring words (before_listen (before_begin (g.met.S.Disk.lawful t c.args.station.now) alone begins) call)
-    c.in-Ok.store begins.starts begins.found c.config_of.ensures (c.serve.ensures.headline t (still_kept call.disk.rests.crash begins.kept))
+    c.in-Ok.store begins.starts begins.found c.config_of-config.ensures (c.serve.ensures.headline t (still_kept call.disk.rests.crash begins.kept))
 
 pub returns-clause-ends : goal.returns-clause-ends
 returns-clause-ends g c =
@@ -68,7 +68,7 @@ returns-clause-ends g c =
     let before : IsTrue g.S.Disk.tells → Before words.is_new old listened = λ t. before_listen (before_begin (g.met.S.Disk.lawful t c.args.station.now) alone (c.in-Ok.ensures.begins t)) call in
     let opens : IsTrue g.S.Disk.tells → OpensAll (station_use g.S.Disk.tells old (g.S.Disk.told c.serve.new.station)) words = λ t. opens_all g.S.Disk.tells words (c.in-Ok.ensures.begins t).opens alone.listener call.disk (named t) c.serve.ensures.kept in
     subst (FolderEnds (station_use g.S.Disk.tells old (g.S.Disk.told c.serve.new.station)) c.args.ring words) (sym c.server_ending.ensures)
-    (fault_ends g.S.Disk.tells c.args.ring words c.in-Ok.store c.in-Err-serve.fault c.config_of.ensures
+    (fault_ends g.S.Disk.tells c.args.ring words c.in-Ok.store c.in-Err-serve.fault c.config_of-config.ensures
     before (λ t. (c.in-Ok.ensures.begins t).starts) (call.disk.faults ∙ c.in-Ok.ensures.counts) (faults ∙ ap (λ (l : Listener). l.faults) alone.listener)
     opens c.in-Err-serve.ensures.broken c.in-Err-serve.ensures.fault)
 
@@ -82,4 +82,4 @@ returns-clause-headline g c t =
     let alone = g.met.S.Disk.by_disk_keeps c.args.station.now c.begin.new.disk c.begin.ensures.alone in
     let begins = c.in-Ok.ensures.begins t in
     served_on g.S.Disk.tells c.args.ring words (before_listen (before_begin (g.met.S.Disk.lawful t c.args.station.now) alone begins) call)
-    c.in-Ok.store begins.starts begins.found c.config_of.ensures (c.serve.ensures.headline t (still_kept call.disk.rests.crash begins.kept))
+    c.in-Ok.store begins.starts begins.found c.config_of-config.ensures (c.serve.ensures.headline t (still_kept call.disk.rests.crash begins.kept))
