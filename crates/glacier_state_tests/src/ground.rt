@@ -63,23 +63,3 @@ pub(crate) fn passed(
     let m = moment_after(state, ground, seconds);
     settle(alloc, state, m)
 }
-
-/// An account with the vault of the ground, whose numbers are used up.
-pub(crate) fn at_the_end(alloc: Global, ground: &Ground) -> Result<AccountState, Memory>
-    ensures { IfOk result (λ state. IsLawful state) }
-{
-    let mut state = used_up(alloc);
-    let m = state.last.later(ground.m);
-    let _ = create(alloc, &mut state, m, &ground.vault)?;
-    Ok(state)
-}
-
-/// An account without vaults, whose numbers are used up.
-#[tactic(auto, using(crate::proofs::CounterLemmas::empty_lawful_at))]
-fn used_up(alloc: Global) -> AccountState
-    ensures { IsLawful result }
-{
-    let mut state = AccountState::new(alloc);
-    state.counter = u64::MAX;
-    state
-}

@@ -5,10 +5,6 @@
 #[cfg(test)]
 mod archive_tests;
 #[cfg(test)]
-mod body_calls;
-#[cfg(test)]
-mod body_tests;
-#[cfg(test)]
 mod extents_tests;
 #[cfg(test)]
 mod ground;

@@ -3,8 +3,7 @@
 ghost use Rattle.std.specs.Prelude.{OnOk};
 ghost use Rattle.glacier_vault.specs.Lawful.{IsLawful};
 
-use crate::ground::{Ground, account_on, at_the_end, ground_of};
-use crate::job_calls;
+use crate::ground::{Ground, account_on, ground_of};
 use crate::upload_calls::{Said, Step, said_of};
 use glacier_base::Memory;
 use glacier_job::DAY;
@@ -68,19 +67,4 @@ fn limits_are_those_of_the_rules(rt: HostRuntime) {
     for (size, allowed) in PART_SIZES {
         assert!(rt; allows_part_size(size) == allowed, "{size}");
     }
-}
-
-#[test]
-fn numbers_end(rt: HostRuntime) -> Result<(), Memory> {
-    let alloc = rt.alloc();
-    let ground = ground_of(64).expect(&rt, "a ground");
-    let mut state = at_the_end(alloc, &ground)?;
-    let said = said_of(alloc, &mut state, &ground, Step::Begin(MIB))?;
-    assert!(rt; said == Said::CounterEnd);
-    let said = said_of(alloc, &mut state, &ground, Step::Upload(3, 1, 9))?;
-    assert!(rt; said == Said::CounterEnd);
-    let said = job_calls::inventory(alloc, &mut state, &ground)?;
-    assert!(rt; said == job_calls::Said::CounterEnd);
-    assert!(rt; state.counter == 18_446_744_073_709_551_615 && state.uploads == 0);
-    Ok(())
 }

@@ -3,7 +3,7 @@
 ghost use Rattle.std.specs.Prelude.{OnOk};
 ghost use Rattle.glacier_vault.specs.Lawful.{IsLawful};
 
-use crate::ground::{Ground, account_on, at_the_end, ground_of};
+use crate::ground::{Ground, account_on, ground_of};
 use crate::lock_calls::{Said, Step, said_of};
 use crate::policy_tests::YEAR;
 use glacier_base::Memory;
@@ -137,13 +137,10 @@ fn a_lock_keeps_archives(rt: HostRuntime) -> Result<(), Memory> {
 }
 
 #[test]
-fn a_lock_needs_a_vault_and_a_number(rt: HostRuntime) -> Result<(), Memory> {
+fn a_lock_needs_a_vault(rt: HostRuntime) -> Result<(), Memory> {
     let alloc = rt.alloc();
     let ground = ground_of(64).expect(&rt, "a ground");
     let mut state = AccountState::new(alloc);
     assert_eq!(rt; answered(alloc, &mut state, &ground, &NOWHERE)?, 4);
-    let mut state = at_the_end(alloc, &ground)?;
-    let said = said_of(alloc, &mut state, &ground, Step::Initiate(YEAR))?;
-    assert!(rt; said == Said::CounterEnd);
     Ok(())
 }

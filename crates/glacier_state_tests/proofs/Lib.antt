@@ -1,2 +1,0 @@
-pub mod CounterLemmas
-pub mod BesideLemmas
