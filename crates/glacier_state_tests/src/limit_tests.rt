@@ -1,5 +1,4 @@
-// The limits of an account, and the end of its numbers. The limits are by hand from
-// docs/rules/uploads.md and docs/rules/vault-machine.md.
+// The limits of an account, by hand from docs/rules/uploads.md and docs/rules/vault-machine.md.
 ghost use Rattle.std.specs.Prelude.{OnOk};
 ghost use Rattle.glacier_vault.specs.Lawful.{IsLawful};
 
