@@ -1,5 +1,5 @@
 -- The soonest moment over a finite map's values, after a change of the map.
-use Rattle.std.specs.Prelude.{◌≡◌, ℕ, ◌+◌, Bool, true, false, cond, ◌||◌, List, [], ◌∷◌, length, Option, Some, None}
+use Rattle.std.specs.Prelude.{◌≡◌, ℕ, Bool, true, false, cond, ◌||◌, List, [], ◌∷◌, length, Option, Some, None}
 use Rattle.std.specs.declared.cmp.Ordering.{Ordering}
 use Rattle.std.specs.declared.cmp.Ordering.TheVariants.{Less, Equal, Greater}
 use Rattle.std.specs.Ordering.{eq_by_cmp, is_eq}
@@ -101,3 +101,8 @@ module _ {K X : Type 0} {R : K → K → Ordering} (o : IsTotalOrder R) (same : 
   -- whether one of a map's keys passes, with one more
   pub any-keys-insert : (m : map.FinMap R X) (k : K) (v : X) → list_any test (map.keys (map.insert m k v)) ≡ (test k || list_any test (map.keys m))
   any-keys-insert m k v = ap (λ (es : List (K × X)). list_any test (keys_of es)) (map.entries-insert o m k v) ∙ any-put k v (map.entries m)
+
+pub any-keys-empty : {K : Type 0} (X : Type 0) (R : K → K → Ordering) (test : K → Bool) → list_any test (map.keys (map.empty {X = X} {R = R})) ≡ false
+any-keys-empty {K} X R test =
+    let none : map.entries (map.empty {X = X} {R = R}) ≡ [] = no_values _ (sym (map.len-entries (map.empty {X = X} {R = R})) ∙ map.len-empty R X) in
+    ap (λ (es : List (K × X)). list_any test (keys_of es)) none

@@ -9,6 +9,7 @@ use Rattle.glacier_base.proofs.LookUps.{if_some-insert, if_some-remove}
 use Rattle.glacier_base.proofs.Sorted.{tied}
 use Rattle.glacier_base.proofs.Sums.{weight, sum_by-insert, sum_by-remove}
 use Rattle.glacier_vault.specs.Deletions.{without_archive, room_freed, live_archive}
+use Rattle.glacier_vault.specs.Due.{sooner, soonest, job_due, finished_due, content_due, due_in}
 use Rattle.glacier_vault.specs.Lawful.{IsLawful, IsLawfulVault, IsLawfulArchive, IsLawfulJob, IsLawfulWork, IsDrawn}
 use Rattle.glacier_vault.specs.Named.{is_named, names}
 use Rattle.glacier_vault.specs.Rows.{in_vault}
@@ -19,6 +20,7 @@ use Rattle.glacier_vault.specs.declared.job.Work.{Work}
 use Rattle.glacier_vault.specs.declared.job.Work.TheVariants as works
 use Rattle.glacier_vault.specs.declared.state.AccountState.{AccountState}
 use Rattle.glacier_vault.specs.declared.state.VaultState.{VaultState}
+use Rattle.glacier_vault.proofs.DueLemmas.{due_in-same, held_due-kept}
 use Rattle.glacier_vault.proofs.KeepsLawful.{lawful-changed_at, lawful_there}
 use Rattle.glacier_vault.proofs.Later.{weaker, weaker_there, later_vault}
 use Rattle.glacier_vault.proofs.TotalsLemmas.{total-changed_at, total-remove}
@@ -114,6 +116,14 @@ module _ (number : ℕ) (vault : VaultState) (archive : Archive) (live : map.get
       kept = λ done. kept_after job at k there (rw (done, is) (eq-eqb k k refl)) (h.kept done);
     }
 
+    -- what becomes held is named by a finished job
+    content_due-without : content_due (without_archive number vault) ≡ content_due vault
+    content_due-without = ap (λ h. content_due (record vault { held = h })) held_is ∙ at (is_named vault.jobs number) refl
+      where
+        at : (named : Bool) → is_named vault.jobs number ≡ named → content_due (record vault { held = held_after named }) ≡ content_due vault
+        at true e = ap (λ x. sooner (soonest job_due (map.values vault.jobs)) (sooner (soonest finished_due (map.values vault.finished)) x)) (held_due-kept vault number archive e)
+        at false e = refl
+
     pub lawful-without_archive : IsLawfulVault counter last (without_archive number vault)
     lawful-without_archive = record {
       created = lawful.created;
@@ -126,6 +136,7 @@ module _ (number : ℕ) (vault : VaultState) (archive : Archive) (live : map.get
       open_or_finished = lawful.open_or_finished;
       jobs = λ n. weaker_there (IsDrawn counter (IsLawfulJob counter last vault.archives vault.held) n) (IsDrawn counter (IsLawfulJob counter last (map.remove vault.archives number) (without_archive number vault).held) n) (map.get vault.jobs n) (λ job there h. record { drawn = h.drawn; right = record { created = h.right.created; work = work_after job n there job.work refl h.right.work } }) (lawful.jobs n);
       lock = lawful.lock;
+      due = lawful.due ∙ sym content_due-without;
     }
 
 -- the account of which a live archive is deleted
@@ -185,6 +196,9 @@ module _ (a : AccountState) (m : ℕ) (lawful : IsLawful a) (name : List ℕ) (n
 
     pub jobs-without_archive : a.jobs ≡ jobs_in (changed_at (without_archive number) a.vaults name)
     jobs-without_archive = of_live _ (λ archive live. lawful.jobs ∙ as_before archive live each_job refl)
+
+    pub due-without_archive : a.due ≡ due_in (changed_at (without_archive number) a.vaults name)
+    due-without_archive = lawful.due ∙ sym (due_in-same a.vaults name vault there (without_archive number) refl)
 
     -- its vault's bytes are kept
     pub bytes_there : vault.bytes ≡ bytes_in vault.archives

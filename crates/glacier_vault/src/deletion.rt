@@ -8,6 +8,7 @@ ghost use Rattle.glacier_vault.specs.Rows.{answer, state_after, in_vault, with_v
 ghost use Rattle.glacier_vault.specs.Totals.{blocks, bytes_in};
 
 use crate::archive::Archive;
+use crate::due::due_of_vaults;
 use crate::event::{Change, Event};
 use crate::job::{Job, Stage, Work};
 use crate::lock::Lock;
@@ -126,6 +127,7 @@ pub fn remove_vault(
     let used = without_blocks(state.used, &vault.held);
     let jobs = state.jobs - vault.jobs.len() as u64;
     let _ = state.vaults.remove(name);
+    state.due = due_of_vaults(&state.vaults);
     state.used = used;
     state.jobs = jobs;
     state.last = m;

@@ -38,7 +38,11 @@ pub fn job_due(job: &Job) -> Option<u64>
     ensures { result ≡ specs.job_due job.now }
 {
     let ready = job.ready.seconds();
-    Some(if waits(&job.stage) { ready } else { ready + DAY })
+    Some(if waits(&job.stage) {
+        ready
+    } else {
+        ready + DAY
+    })
 }
 
 /// When a finished upload ends.

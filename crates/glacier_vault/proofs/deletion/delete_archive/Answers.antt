@@ -1,7 +1,7 @@
 use Rattle.std.proofs.Common.{sym, subst, arith}
 use Rattle.std.proofs.lemmas.Grind.{common_steps}
 use Rattle.glacier_vault.specs.Lawful.{IsLawful}
-use Rattle.glacier_vault.proofs.WithoutArchive.{room_within, used-without_archive, uploads-without_archive, jobs-without_archive, lawful-deletion}
+use Rattle.glacier_vault.proofs.WithoutArchive.{room_within, used-without_archive, uploads-without_archive, jobs-without_archive, due-without_archive, lawful-deletion}
 use Rattle.glacier_vault.proofs.deletion.delete_archive.Goals as goal
 
 pub overflow_sub-state : goal.overflow_sub-state
@@ -13,6 +13,7 @@ returns-clause-state c =
     let used = used-without_archive c.args.state.now c.args.m c.requires.lawful c.args.name.now c.args.archive c.in-Some.vault.now there c.requires.live in
     let uploads = uploads-without_archive c.args.state.now c.args.m c.requires.lawful c.args.name.now c.args.archive c.in-Some.vault.now there c.requires.live in
     let jobs = jobs-without_archive c.args.state.now c.args.m c.requires.lawful c.args.name.now c.args.archive c.in-Some.vault.now there c.requires.live in
+    let due = due-without_archive c.args.state.now c.args.m c.requires.lawful c.args.name.now c.args.archive c.in-Some.vault.now there c.requires.live in
     grind (arith, common_steps)
 
 pub returns-clause-lawful : goal.returns-clause-lawful
