@@ -1,30 +1,53 @@
 -- What a change of a vault's lock leaves.
-use Rattle.std.specs.Prelude.{◌≡◌, ℕ, ◌≤◌, List, Option, Some, None, Result, Ok, Err, IfSome, IfOk}
+use Rattle.std.specs.Prelude.{◌≡◌, ℕ, ◌≤◌, ◌+◌, false, cond, List, Option, Some, None, Result, Ok, Err, IfSome, IfOk}
 use Rattle.std.specs.FinMap as map
-use Rattle.std.proofs.Common.{◌∙◌, ap, sym, subst, arith}
+use Rattle.std.proofs.Common.{◌∙◌, ap, sym, refl, subst, arith}
 use Rattle.glacier_base.specs.Maps.{changed_at}
+use Rattle.glacier_vault.specs.Due.{sooner, lock_due, vault_due, due_in}
 use Rattle.glacier_vault.specs.Lawful.{IsLawful, IsLawfulLock}
-use Rattle.glacier_vault.specs.Rows.{in_vault}
+use Rattle.glacier_vault.specs.Rows.{draw_refusal, in_vault}
 use Rattle.glacier_vault.specs.Totals.{blocks, each_upload, each_job, used_in, uploads_in, jobs_in}
+use Rattle.glacier_vault.specs.declared.due.TheConstants.{DAY}
 use Rattle.glacier_vault.specs.declared.lock.Lock.{Lock}
 use Rattle.glacier_vault.specs.declared.refusal.Refusal.{Refusal}
 use Rattle.glacier_vault.specs.declared.refusal.Refusal.TheVariants.{NoVault, NoLock}
 use Rattle.glacier_vault.specs.declared.state.AccountState.{AccountState}
 use Rattle.glacier_vault.specs.declared.state.VaultState.{VaultState}
+use Rattle.glacier_vault.proofs.DueLemmas.{due_in-sooner}
 use Rattle.glacier_vault.proofs.KeepsLawful.{lawful-changed_at, lawful_there}
 use Rattle.glacier_vault.proofs.Later.{later_vault}
+use Rattle.glacier_vault.proofs.SoonerLemmas.{sooner-none}
 use Rattle.glacier_vault.proofs.TotalsLemmas.{total-changed_at}
-use Rattle.glacier_lock.specs.Locks.{with_lock, locked, found_lock}
+use Rattle.glacier_lock.specs.Locks.{with_lock, locked, found_lock, lock_refusal, initiate_refusal}
 
 module _ (a : AccountState) (m : ℕ) (le : a.last ≤ m) (lawful : IsLawful a) (name : List ℕ) (vault : VaultState) (there : map.get a.vaults name ≡ Some vault) where
   -- no total counts it
-  pub in_vault-lock : (lock : Option Lock) (next : ℕ) → record a { last = m; counter = next; vaults = changed_at (with_lock lock) a.vaults name } ≡ in_vault (record a { counter = next }) m name (with_lock lock)
-  in_vault-lock lock next =
+  pub in_vault-lock : (lock : Option Lock) (next : ℕ) (soon : Option ℕ) → soon ≡ due_in (changed_at (with_lock lock) a.vaults name)
+      → record a { last = m; counter = next; vaults = changed_at (with_lock lock) a.vaults name; due = soon } ≡ in_vault (record a { counter = next }) m name (with_lock lock)
+  in_vault-lock lock next soon due =
       let after = changed_at (with_lock lock) a.vaults name in
       let used : a.used ≡ used_in after = omega (arith, lawful.used, total-changed_at blocks a.vaults name vault there (with_lock lock)) in
       let uploads : a.uploads ≡ uploads_in after = omega (arith, lawful.uploads, total-changed_at each_upload a.vaults name vault there (with_lock lock)) in
       let jobs : a.jobs ≡ jobs_in after = omega (arith, lawful.jobs, total-changed_at each_job a.vaults name vault there (with_lock lock)) in
-      λ i. record { last = m; counter = next; vaults = after; used = used i; uploads = uploads i; jobs = jobs i }
+      λ i. record { last = m; counter = next; vaults = after; used = used i; uploads = uploads i; jobs = jobs i; due = due i }
+
+  -- one in progress is due a day after it was made
+  pub due-put_lock : initiate_refusal a name ≡ None → (lock : Lock) → lock.locked ≡ false → sooner a.due (Some (lock.created + DAY)) ≡ due_in (changed_at (with_lock (Some lock)) a.vaults name)
+  due-put_lock free lock open_lock =
+      let ends : lock_due (Some lock) ≡ Some (lock.created + DAY) = ap (λ b. cond b None (Some (lock.created + DAY))) open_lock in
+      let was : vault_due vault ≡ vault.due = ap (λ l. sooner vault.due (lock_due l)) (no_lock free) ∙ sooner-none vault.due in
+      sym (due_in-sooner a.vaults name vault there (with_lock (Some lock)) (Some (lock.created + DAY)) (ap (sooner vault.due) ends ∙ ap (λ x. sooner x (Some (lock.created + DAY))) (sym was))
+      ∙ ap (λ x. sooner x (Some (lock.created + DAY))) (sym lawful.due))
+    where
+      by_lock : Option Lock → Option Refusal
+      by_lock l = elim (lock_refusal l) [ Some refusal ↦ Some refusal | None ↦ draw_refusal a ]
+
+      none_there : (l : Option Lock) → by_lock l ≡ None → l ≡ None
+      none_there None e = refl
+      none_there (Some l) e = cc
+
+      no_lock : initiate_refusal a name ≡ None → vault.lock ≡ None
+      no_lock e = none_there vault.lock (sym (ap (λ (r : Option VaultState). elim r as (λ _. Option Refusal) [ None ↦ Some (NoVault name) | Some v ↦ by_lock v.lock ]) there) ∙ e)
 
   pub lawful-with_lock : (lock : Option Lock) (next : ℕ) → a.counter ≤ next → IfSome lock (IsLawfulLock next m) → IsLawful (in_vault (record a { counter = next }) m name (with_lock lock))
   lawful-with_lock lock next more right = lawful-changed_at a next m more le lawful name vault there (with_lock lock)
@@ -40,6 +63,7 @@ module _ (a : AccountState) (m : ℕ) (le : a.last ≤ m) (lawful : IsLawful a) 
         open_or_finished = up.open_or_finished;
         jobs = up.jobs;
         lock = right;
+        due = up.due;
       })
       (record { old = λ blob _. omega arith; new = λ blob. omega arith })
 

@@ -9,7 +9,7 @@ ghost use Rattle.glacier_lock.specs.Locks.{found_lock, initiate_refusal, locked,
 
 use glacier_base::{Moment, Text, VaultName};
 use glacier_policy::Policy;
-use glacier_vault::{AccountState, Lock};
+use glacier_vault::{AccountState, DAY, Lock, due_of_vaults, sooner};
 
 /// Puts a lock in progress into a vault for which `refuse_initiate` tells no refusal, with the account's next
 /// number: a text, and the policy that it is.
@@ -34,6 +34,7 @@ pub fn put_lock(state: &mut AccountState, m: Moment, vault: &VaultName, text: Te
         unreachable!();
     };
     found.lock = Some(lock);
+    state.due = sooner(state.due, Some(m.seconds() + DAY));
     state.counter += 1;
     state.last = m;
 }
@@ -55,6 +56,7 @@ pub fn fix_lock(state: &mut AccountState, m: Moment, vault: &VaultName)
         unreachable!();
     };
     lock.locked = true;
+    state.due = due_of_vaults(&state.vaults);
     state.last = m;
 }
 
@@ -72,5 +74,6 @@ pub fn take_lock(state: &mut AccountState, m: Moment, vault: &VaultName)
         unreachable!();
     };
     found.lock = None;
+    state.due = due_of_vaults(&state.vaults);
     state.last = m;
 }

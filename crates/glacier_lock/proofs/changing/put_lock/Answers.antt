@@ -1,13 +1,14 @@
-use Rattle.std.proofs.Common.{Some, ◌+◌, sym, subst, arith}
+use Rattle.std.proofs.Common.{Some, ◌+◌, sym, refl, subst, arith}
 use Rattle.std.proofs.lemmas.Grind.{common_steps}
 use Rattle.glacier_vault.specs.Lawful.{IsLawful}
 use Rattle.glacier_lock.specs.Locks.{new_lock}
-use Rattle.glacier_lock.proofs.LockLemmas.{in_vault-lock, lawful-with_lock}
+use Rattle.glacier_lock.proofs.LockLemmas.{in_vault-lock, due-put_lock, lawful-with_lock}
 use Rattle.glacier_lock.proofs.changing.put_lock.Goals as goal
 
 pub returns-clause-state : goal.returns-clause-state
 returns-clause-state c =
-    let totals = in_vault-lock c.args.state.now c.args.m c.requires.time c.requires.lawful c.args.vault.now c.in-Some.found.now (sym c.in-Some.ensures.value) (Some (new_lock c.args.state.now.counter c.args.m c.args.text c.args.policy)) (c.args.state.now.counter + 1) in
+    let totals = in_vault-lock c.args.state.now c.args.m c.requires.time c.requires.lawful c.args.vault.now c.in-Some.found.now (sym c.in-Some.ensures.value) (Some (new_lock c.args.state.now.counter c.args.m c.args.text c.args.policy)) (c.args.state.now.counter + 1) _
+    (due-put_lock c.args.state.now c.args.m c.requires.time c.requires.lawful c.args.vault.now c.in-Some.found.now (sym c.in-Some.ensures.value) c.requires.free (new_lock c.args.state.now.counter c.args.m c.args.text c.args.policy) refl) in
     grind (arith, common_steps)
 
 pub returns-clause-lawful : goal.returns-clause-lawful
