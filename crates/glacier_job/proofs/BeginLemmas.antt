@@ -9,6 +9,7 @@ use Rattle.glacier_base.proofs.LookUps.{if_some-insert}
 use Rattle.glacier_base.proofs.Sums.{weight, sum_by-insert}
 use Rattle.glacier_treehash.specs.Tree.{mib}
 use Rattle.glacier_vault.specs.Account.{counter_end}
+use Rattle.glacier_vault.specs.Due.{sooner, job_due, due_in}
 use Rattle.glacier_vault.specs.Lawful.{IsLawful, IsLawfulVault, IsLawfulArchive, IsLawfulJob, IsLawfulWork, IsDrawn}
 use Rattle.glacier_vault.specs.Rows.{state_after, draw_refusal, changed}
 use Rattle.glacier_vault.specs.Totals.{Weight, vault_total, total, blocks, each_upload, each_job, naming, used_in, uploads_in, jobs_in}
@@ -33,6 +34,7 @@ use Rattle.glacier_job.specs.declared.asks.AskKind.{AskKind}
 use Rattle.glacier_job.specs.declared.asks.AskKind.TheVariants as kinds
 use Rattle.glacier_job.specs.declared.asks.JobAsk.{JobAsk}
 use Rattle.glacier_job.specs.declared.beginning.TheConstants.{MOST_JOBS}
+use Rattle.glacier_job.proofs.WaitingLemmas.{content_due-with_job, due_in-with_job}
 
 neither : (a b : Bool) → (a || b) ≡ false → (a ≡ false) × (b ≡ false)
 neither true b e = cc
@@ -95,8 +97,12 @@ module _ (counter last : ℕ) (vault : VaultState) (lawful : IsLawfulVault count
       at None live e = cc
       at (Some archive) live e = in_archive archive live (is_bad_job_range range archive.size) refl e
 
-  lawful-with_job : (job : Job) → IsLawfulJob (counter + 1) last vault.archives vault.held job → IsLawfulVault (counter + 1) last (with_job counter job vault)
-  lawful-with_job job right =
+  -- the next number is no job's
+  number_free : map.get vault.jobs counter ≡ None
+  number_free = fresh (λ _. IsLawfulJob counter last vault.archives vault.held) counter vault.jobs lawful.jobs
+
+  lawful-with_job : (job : Job) → job.stage ≡ Waiting → IsLawfulJob (counter + 1) last vault.archives vault.held job → IsLawfulVault (counter + 1) last (with_job counter job vault)
+  lawful-with_job job waits right =
       let up = later_vault counter (counter + 1) (omega arith) last last (omega arith) vault lawful in
       record {
         created = lawful.created;
@@ -110,13 +116,13 @@ module _ (counter last : ℕ) (vault : VaultState) (lawful : IsLawfulVault count
         jobs = λ n. if_some-insert nat_cmp_total map.nat_cmp-IsAntisymmetric (IsDrawn (counter + 1) (IsLawfulJob (counter + 1) last vault.archives vault.held)) vault.jobs counter n job
             (record { drawn = omega arith; right = right }) (up.jobs n);
         lock = up.lock;
+        due = ap (λ d. sooner d (job_due job)) lawful.due ∙ sym (content_due-with_job counter job waits vault number_free);
       }
 
   -- one more job weighs as much more
   vault_total-with_job : (w : Weight) (job : Job) → vault_total w (with_job counter job vault) ≡ vault_total w vault + w.job
   vault_total-with_job w job =
-      let none = fresh (λ _. IsLawfulJob counter last vault.archives vault.held) counter vault.jobs lawful.jobs in
-      omega (arith, sum_by-insert nat_cmp_total (λ (job : Job). w.job) vault.jobs counter job, ap (weight (λ (job : Job). w.job)) none)
+      omega (arith, sum_by-insert nat_cmp_total (λ (job : Job). w.job) vault.jobs counter job, ap (weight (λ (job : Job). w.job)) number_free)
 
 -- a vault is there, and the job is lawful in it
 abbrev FitsThere : ℕ → ℕ → Job → Option VaultState → Type 0
@@ -143,21 +149,24 @@ module _ (a : AccountState) (m : ℕ) (le : a.last ≤ m) (lawful : IsLawful a) 
     pub jobs-put : (job : Job) → a.jobs + 1 ≡ jobs_in (changed_at (with_job a.counter job) a.vaults name)
     jobs-put job = omega (arith, lawful.jobs, total-put each_job job)
 
-    lawful-there : (job : Job) → IsLawfulJob (a.counter + 1) m vault.archives vault.held job → IsLawful (after_put a m name job)
-    lawful-there job right = lawful-changed_at a (a.counter + 1) m (omega arith) le lawful name vault there (with_job a.counter job)
-        (lawful-with_job a.counter m vault later job right)
+    pub due-put : (job : Job) → job.stage ≡ Waiting → sooner a.due (job_due job) ≡ due_in (changed_at (with_job a.counter job) a.vaults name)
+    due-put job waits = ap (λ d. sooner d (job_due job)) lawful.due ∙ sym (due_in-with_job a.counter job waits vault a.vaults name there)
+
+    lawful-there : (job : Job) → job.stage ≡ Waiting → IsLawfulJob (a.counter + 1) m vault.archives vault.held job → IsLawful (after_put a m name job)
+    lawful-there job waits right = lawful-changed_at a (a.counter + 1) m (omega arith) le lawful name vault there (with_job a.counter job)
+        (lawful-with_job a.counter m vault later job waits right)
         (record {
           old = λ blob _. omega (arith, vault_total-with_job a.counter a.last vault right_vault (naming blob) job);
           new = λ blob. omega (arith, vault_total-with_job a.counter a.last vault right_vault (naming blob) job);
         })
 
   -- a job that fits keeps an account lawful
-  pub lawful-put : (job : Job) → FitsIn a m name job → IsLawful (after_put a m name job)
-  lawful-put job fits = at (map.get a.vaults name) refl fits
+  pub lawful-put : (job : Job) → job.stage ≡ Waiting → FitsIn a m name job → IsLawful (after_put a m name job)
+  lawful-put job waits fits = at (map.get a.vaults name) refl fits
     where
       at : (r : Option VaultState) → map.get a.vaults name ≡ r → FitsThere (a.counter + 1) m job r → IsLawful (after_put a m name job)
       at None there fits = absurd fits
-      at (Some vault) there fits = lawful-there vault there job fits
+      at (Some vault) there fits = lawful-there vault there job waits fits
 
 module _ (rules : Rules) (a : AccountState) (m : ℕ) (le : a.last ≤ m) (lawful : IsLawful a) (ask : JobAsk) (order : HasOrderedRange ask.kind) where
   abbrev by_limit : Work → Option Refusal → Result Work Refusal
@@ -206,7 +215,7 @@ module _ (rules : Rules) (a : AccountState) (m : ℕ) (le : a.last ≤ m) (lawfu
 
   by_row : (r : Result Work Refusal) → accepted_work a ask ≡ r → IsLawful (state_after {X = Change} a (elim r [ Err refusal ↦ Err refusal | Ok work ↦ Ok (after_put a m ask.vault (new_job rules m ask work), changed (begin_event ask (ready_at rules m ask.tier) work)) ]))
   by_row (Err refusal) is = lawful
-  by_row (Ok work) is = lawful-put a m le lawful ask.vault (new_job rules m ask work) (accepted work is).0
+  by_row (Ok work) is = lawful-put a m le lawful ask.vault (new_job rules m ask work) refl (accepted work is).0
 
   pub lawful-begin : IsLawful (state_after a (begin_row rules a m ask))
   lawful-begin = by_row (accepted_work a ask) refl

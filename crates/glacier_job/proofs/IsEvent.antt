@@ -18,7 +18,7 @@ use Rattle.glacier_base.proofs.Changed.{get-where_entries, get-map_values}
 use Rattle.glacier_base.proofs.Finite.{bytes_cmp-IsAntisymmetric}
 use Rattle.glacier_base.proofs.Sorted.{rising, tied}
 use Rattle.glacier_vault.specs.Lawful.{IsLawful}
-use Rattle.glacier_vault.specs.Named.{is_named}
+use Rattle.glacier_vault.specs.Named.{is_named, is_waiting}
 use Rattle.glacier_vault.specs.Totals.{Archives}
 use Rattle.glacier_vault.specs.declared.archive.Archive.{Archive}
 use Rattle.glacier_vault.specs.declared.archive.Finished.{Finished}
@@ -28,7 +28,7 @@ use Rattle.glacier_vault.specs.declared.job.Stage.TheVariants.{Waiting, Failed, 
 use Rattle.glacier_vault.specs.declared.lock.Lock.{Lock}
 use Rattle.glacier_vault.specs.declared.state.AccountState.{AccountState}
 use Rattle.glacier_vault.specs.declared.state.VaultState.{VaultState}
-use Rattle.glacier_job.specs.Pass.{outcome, stage_at, settled, is_waiting, is_past, has_ended, jobs_after, lock_after, passed, pass, job_is_due, lock_is_due, vault_is_due, pass_is_event}
+use Rattle.glacier_job.specs.Pass.{outcome, stage_at, settled, is_past, has_ended, jobs_after, lock_after, passed, pass, job_is_due, lock_is_due, vault_is_due, pass_is_event}
 use Rattle.glacier_job.proofs.NotDue.{pass-not_due}
 use Rattle.glacier_job.proofs.PassLemmas.{outcome_settles}
 
@@ -74,7 +74,7 @@ module _ {K X : Type 0} (R : K → K → Ordering) (o : IsTotalOrder R) (same : 
       record { key = h.0; value = h.1; there = map.get-entries m h.0 ∙ h.2; passes = h.3 }
 
 -- the test of values, and of keys
-any_values : {K X : Type 0} (R : K → K → Ordering) (o : IsTotalOrder R) (same : map.IsAntisymmetric R) (test : X → Bool) (es : List (K × X)) → any R o same (λ _ x. test x) es ≡ list_any test (values_of es)
+pub any_values : {K X : Type 0} (R : K → K → Ordering) (o : IsTotalOrder R) (same : map.IsAntisymmetric R) (test : X → Bool) (es : List (K × X)) → any R o same (λ _ x. test x) es ≡ list_any test (values_of es)
 any_values R o same test [] = refl
 any_values R o same test (e ∷ es) = ap (λ b. test e.1 || b) (any_values R o same test es)
 

@@ -1,4 +1,5 @@
 pub mod BeginLemmas
+pub mod DueLemmas
 pub mod IsEvent
 pub mod NamingLemmas
 pub mod NotDue
@@ -7,4 +8,4 @@ pub mod PassLawful
 pub mod PassLemmas
 pub mod PassTotals
 pub mod PassTwice
-pub mod StrikeLemmas
+pub mod WaitingLemmas

@@ -1,16 +1,19 @@
 -- A moment at which nothing is due changes nothing but the last moment.
-use Rattle.std.specs.Prelude.{◌≡◌, ℕ, Bool, true, false, not, cond, ◌&&◌, ◌||◌, List, [], ◌∷◌, ◌++◌, Option, Some, None, nat_le, map as each, filter}
+use Rattle.std.specs.Prelude.{◌≡◌, ℕ, Bool, true, false, not, cond, ◌&&◌, ◌||◌, List, [], ◌∷◌, ◌++◌, Option, Some, None, IfSome, nat_le, map as each, filter}
 use Rattle.std.specs.Cmp.{nat_cmp_total}
-use Rattle.std.specs.Cmp.Lexicographic.{nat_list_cmp_total}
+use Rattle.std.specs.Cmp.Lexicographic.{nat_list_cmp_total, slice_cmp}
 use Rattle.std.specs.FinMap as map
 use Rattle.std.specs.List.{list_any, flat_map}
 use Rattle.std.specs.Map.{values_of}
+use Rattle.std.specs.Option.{option_map}
+use Rattle.std.specs.Ordering.{nat_cmp}
 use Rattle.std.proofs.Common.{◌∙◌, ap, sym, refl}
 use Rattle.glacier_base.specs.Maps.{map_values, where_entries}
-use Rattle.glacier_base.proofs.Changed.{from_entries-entries}
+use Rattle.glacier_base.proofs.Changed.{from_entries-entries, get-map_values}
 use Rattle.glacier_base.proofs.Finite.{bytes_cmp-IsAntisymmetric}
-use Rattle.glacier_vault.specs.Lawful.{IsLawful}
-use Rattle.glacier_vault.specs.Named.{is_named, blobs_of}
+use Rattle.glacier_vault.specs.Due.{content_due, due_in}
+use Rattle.glacier_vault.specs.Lawful.{IsLawful, IsLawfulVault}
+use Rattle.glacier_vault.specs.Named.{is_named, is_waiting, blobs_of}
 use Rattle.glacier_vault.specs.Totals.{Archives, used_in, uploads_in, jobs_in}
 use Rattle.glacier_vault.specs.declared.archive.Finished.{Finished}
 use Rattle.glacier_vault.specs.declared.job.Job.{Job}
@@ -19,7 +22,9 @@ use Rattle.glacier_vault.specs.declared.job.Stage.TheVariants.{Waiting, Failed, 
 use Rattle.glacier_vault.specs.declared.lock.Lock.{Lock}
 use Rattle.glacier_vault.specs.declared.state.AccountState.{AccountState}
 use Rattle.glacier_vault.specs.declared.state.VaultState.{VaultState}
-use Rattle.glacier_job.specs.Pass.{outcome, settled, is_waiting, is_past, has_ended, jobs_after, held_after, finished_after, lock_after, passed, pass, dropped, freed, job_is_due, lock_is_due, vault_is_due, pass_is_event}
+use Rattle.glacier_vault.proofs.Later.{weaker}
+use Rattle.glacier_vault.proofs.ValuesLemmas.{list_any-values}
+use Rattle.glacier_job.specs.Pass.{outcome, settled, is_past, has_ended, jobs_after, held_after, finished_after, lock_after, left_in, passed, pass, dropped, freed, job_is_due, lock_is_due, vault_is_due, pass_is_event}
 
 -- neither of two tests holds
 neither : (a b : Bool) → (a || b) ≡ false → (a ≡ false) × (b ≡ false)
@@ -114,8 +119,8 @@ module _ (m : ℕ) where
         ap (λ es. map.from_entries es) (filter_same (λ (upload : Finished). is_past m upload.at) (λ (e : ℕ × Finished). e.1) (λ e. not (is_past m e.1.at)) (λ e d. ap not d) (map.entries vault.finished) jobs_not_due.1)
         ∙ from_entries-entries nat_cmp_total map.nat_cmp-IsAntisymmetric vault.finished
 
-    pub passed_same : passed m vault ≡ vault
-    passed_same = λ i. record {
+    left_same : left_in m vault ≡ vault
+    left_same = λ i. record {
       created = vault.created;
       archives = vault.archives;
       bytes = vault.bytes;
@@ -124,6 +129,20 @@ module _ (m : ℕ) where
       finished = finished_same i;
       jobs = jobs_same i;
       lock = lock_same vault.lock first_two.1 i;
+      due = vault.due;
+    }
+
+    pub passed_same : vault.due ≡ content_due vault → passed m vault ≡ vault
+    passed_same kept = λ i. record {
+      created = vault.created;
+      archives = vault.archives;
+      bytes = vault.bytes;
+      held = held_same i;
+      uploads = vault.uploads;
+      finished = finished_same i;
+      jobs = jobs_same i;
+      lock = lock_same vault.lock first_two.1 i;
+      due = (ap (λ v. content_due v) left_same ∙ sym kept) i;
     }
 
     pub dropped_none : dropped m vault ≡ []
@@ -141,16 +160,29 @@ module _ (m : ℕ) where
     pub freed-not_due : freed m a ≡ []
     freed-not_due = none_freed (map.values a.vaults) none
 
-    pub vaults_same : map_values (passed m) a.vaults ≡ a.vaults
-    vaults_same =
-        ap (λ es. map.from_entries es) (each_same (vault_is_due m) (passed m) passed_same (map.entries a.vaults) none) ∙ from_entries-entries nat_list_cmp_total bytes_cmp-IsAntisymmetric a.vaults
+    -- vaults that keep the moment that is due in them stay
+    pub vaults_same : ((name : List ℕ) → IfSome (map.get a.vaults name) (λ vault. vault.due ≡ content_due vault)) → map_values (passed m) a.vaults ≡ a.vaults
+    vaults_same kept = map.same_map nat_list_cmp_total bytes_cmp-IsAntisymmetric _ _ (λ name. get-map_values nat_list_cmp_total (passed m) a.vaults name ∙ at name (map.get a.vaults name) refl (kept name))
+      where
+        not_due : (name : List ℕ) (vault : VaultState) → map.get a.vaults name ≡ Some vault → (b : Bool) → vault_is_due m vault ≡ b → b ≡ false
+        not_due name vault there true e = let some : pass_is_event m a ≡ true = list_any-values (slice_cmp nat_cmp) (vault_is_due m) a.vaults name vault there e in cc
+        not_due name vault there false e = refl
 
-    pub pass-not_due : IsLawful a → pass m a ≡ record a { last = m }
-    pass-not_due lawful = λ i. record {
-      last = m;
-      counter = a.counter;
-      vaults = vaults_same i;
-      used = (ap used_in vaults_same ∙ sym lawful.used) i;
-      uploads = (ap uploads_in vaults_same ∙ sym lawful.uploads) i;
-      jobs = (ap jobs_in vaults_same ∙ sym lawful.jobs) i;
-    }
+        at : (name : List ℕ) (r : Option VaultState) → map.get a.vaults name ≡ r → IfSome r (λ vault. vault.due ≡ content_due vault) → option_map (passed m) r ≡ r
+        at name None there kept = refl
+        at name (Some vault) there kept = ap (λ v. Some v) (passed_same vault (not_due name vault there (vault_is_due m vault) refl) kept)
+
+    module _ (lawful : IsLawful a) where
+      lawful_same : map_values (passed m) a.vaults ≡ a.vaults
+      lawful_same = vaults_same (λ name. weaker (IsLawfulVault a.counter a.last) (λ vault. vault.due ≡ content_due vault) (map.get a.vaults name) (λ vault h. h.due) (lawful.vaults name))
+
+      pub pass-not_due : pass m a ≡ record a { last = m }
+      pass-not_due = λ i. record {
+        last = m;
+        counter = a.counter;
+        vaults = lawful_same i;
+        used = (ap used_in lawful_same ∙ sym lawful.used) i;
+        uploads = (ap uploads_in lawful_same ∙ sym lawful.uploads) i;
+        jobs = (ap jobs_in lawful_same ∙ sym lawful.jobs) i;
+        due = (ap due_in lawful_same ∙ sym lawful.due) i;
+      }

@@ -121,6 +121,7 @@ module _ (m counter last : ℕ) (vault : VaultState) (lawful : IsLawfulVault cou
     open_or_finished = λ n some. lawful.open_or_finished n (filtered_some (λ (upload : Finished). not (is_past m upload.at)) _ (subst IsSome (get-where_entries nat_cmp_total map.nat_cmp-IsAntisymmetric (λ _ upload. not (is_past m upload.at)) vault.finished n) some));
     jobs = jobs_left;
     lock = lock_left vault.lock lawful.lock;
+    due = refl;
   }
 
 pub lawful-pass : (a : AccountState) (m : ℕ) → IsLawful a → a.last ≤ m → IsLawful (pass m a)
@@ -130,5 +131,6 @@ lawful-pass a m lawful le = record {
   used = refl;
   uploads = refl;
   jobs = refl;
+  due = refl;
   blobs = named_less a a.counter m (omega arith) le lawful (map_values (passed m) a.vaults) (λ blob. omega (arith, total-pass m (naming blob) a.vaults));
 }

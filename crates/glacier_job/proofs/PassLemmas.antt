@@ -10,9 +10,10 @@ use Rattle.std.proofs.lemmas.Bool.{eqb-true, leb-true, le-leb}
 use Rattle.glacier_base.specs.Maps.{map_values, where_entries}
 use Rattle.glacier_base.proofs.Changed.{from_entries-entries}
 use Rattle.glacier_base.proofs.Listed.{entries-map_values, entries-where_entries}
-use Rattle.glacier_vault.specs.Named.{is_named, names}
+use Rattle.glacier_vault.specs.Named.{is_named, is_waiting, names}
 use Rattle.glacier_vault.specs.Totals.{Archives}
 use Rattle.glacier_vault.specs.declared.archive.Archive.{Archive}
+use Rattle.glacier_vault.specs.declared.due.TheConstants.{DAY}
 use Rattle.glacier_vault.specs.declared.job.Job.{Job}
 use Rattle.glacier_vault.specs.declared.job.Stage.{Stage}
 use Rattle.glacier_vault.specs.declared.job.Stage.TheVariants.{Waiting, Failed, Done}
@@ -20,8 +21,7 @@ use Rattle.glacier_vault.specs.declared.job.Work.{Work}
 use Rattle.glacier_vault.specs.declared.job.Work.TheVariants as works
 use Rattle.glacier_vault.specs.declared.state.VaultState.{VaultState}
 use Rattle.glacier_job.specs.Naming.{names_at}
-use Rattle.glacier_job.specs.Pass.{outcome, settled, is_waiting, is_past, has_ended, jobs_after, dropped}
-use Rattle.glacier_job.specs.declared.ending.TheConstants.{DAY}
+use Rattle.glacier_job.specs.Pass.{outcome, settled, is_past, has_ended, jobs_after, dropped}
 
 and-true : (b : Bool) → (b && true) ≡ b
 and-true true = refl

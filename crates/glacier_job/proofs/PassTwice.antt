@@ -1,14 +1,17 @@
 -- A moment that comes twice does nothing the second time.
-use Rattle.std.specs.Prelude.{◌≡◌, ℕ, Bool, true, false, not, cond, ◌&&◌, ◌||◌, List, [], ◌∷◌, Option, Some, None, nat_le, map as each, filter}
+use Rattle.std.specs.Prelude.{◌≡◌, ℕ, Bool, true, false, not, cond, ◌&&◌, ◌||◌, List, [], ◌∷◌, Option, Some, None, IfSome, nat_le, map as each, filter}
 use Rattle.std.specs.Cmp.{nat_cmp_total}
 use Rattle.std.specs.Cmp.Lexicographic.{nat_list_cmp_total}
 use Rattle.std.specs.FinMap as map
 use Rattle.std.specs.List.{list_any}
 use Rattle.std.specs.Map.{keys_of, values_of}
-use Rattle.std.proofs.Common.{◌∙◌, ap, refl}
+use Rattle.std.specs.Option.{option_map}
+use Rattle.std.proofs.Common.{◌∙◌, ap, sym, refl, subst}
 use Rattle.glacier_base.specs.Maps.{map_values}
+use Rattle.glacier_base.proofs.Changed.{get-map_values}
 use Rattle.glacier_base.proofs.Listed.{entries-map_values, entries-where_entries}
-use Rattle.glacier_vault.specs.Named.{is_named}
+use Rattle.glacier_vault.specs.Due.{held_due, content_due, due_in}
+use Rattle.glacier_vault.specs.Named.{is_named, is_waiting}
 use Rattle.glacier_vault.specs.Totals.{Archives, used_in, uploads_in, jobs_in}
 use Rattle.glacier_vault.specs.declared.archive.Archive.{Archive}
 use Rattle.glacier_vault.specs.declared.archive.Finished.{Finished}
@@ -18,7 +21,7 @@ use Rattle.glacier_vault.specs.declared.job.Stage.TheVariants.{Waiting, Failed, 
 use Rattle.glacier_vault.specs.declared.lock.Lock.{Lock}
 use Rattle.glacier_vault.specs.declared.state.AccountState.{AccountState}
 use Rattle.glacier_vault.specs.declared.state.VaultState.{VaultState}
-use Rattle.glacier_job.specs.Pass.{outcome, settled, is_waiting, is_past, has_ended, jobs_after, lock_after, lock_ends, passed, pass, job_is_due, lock_is_due, vault_is_due, pass_is_event}
+use Rattle.glacier_job.specs.Pass.{outcome, settled, is_past, has_ended, jobs_after, lock_after, lock_ends, left_in, passed, pass, job_is_due, lock_is_due, vault_is_due, pass_is_event}
 use Rattle.glacier_job.proofs.NotDue.{vaults_same}
 use Rattle.glacier_job.proofs.PassLemmas.{outcome_settles}
 
@@ -92,6 +95,10 @@ module _ (m : ℕ) where
         ap (λ es. list_any (λ number. not (is_named (jobs_after m vault) number)) (keys_of es)) (entries-where_entries nat_cmp_total vault.held (λ number _. is_named (jobs_after m vault) number))
         ∙ none_left (λ (e : ℕ × Archive). e.0) (λ e. is_named (jobs_after m vault) e.0) (λ number. not (is_named (jobs_after m vault) number)) (λ e s. ap not s) (map.entries vault.held)
 
+    -- what is held is named
+    pub held_due-left : held_due (left_in m vault) ≡ None
+    held_due-left = ap (λ b. cond b (Some 0) None) held_not_due
+
     passed_not_due : vault_is_due m (passed m vault) ≡ false
     passed_not_due = four (list_any (job_is_due m) (map.values (jobs_after m vault))) (list_any (λ (upload : Finished). is_past m upload.at) (map.values (passed m vault).finished)) (lock_is_due m (lock_after m vault.lock))
         (list_any (λ number. not (is_named (jobs_after m vault) number)) (map.keys (passed m vault).held)) jobs_not_due finished_not_due (lock_not_due vault.lock) held_not_due
@@ -106,5 +113,12 @@ module _ (m : ℕ) where
   pub pass_twice : (a : AccountState) → pass m (pass m a) ≡ pass m a
   pass_twice a =
       let none : pass_is_event m (pass m a) ≡ false = ap (λ es. list_any (vault_is_due m) (values_of es)) (entries-map_values nat_list_cmp_total a.vaults (passed m)) ∙ each_not_due (map.entries a.vaults) in
-      let same = vaults_same m (pass m a) none in
-      λ i. record { last = m; counter = a.counter; vaults = same i; used = used_in (same i); uploads = uploads_in (same i); jobs = jobs_in (same i) }
+      let same = vaults_same m (pass m a) none kept in
+      λ i. record { last = m; counter = a.counter; vaults = same i; used = used_in (same i); uploads = uploads_in (same i); jobs = jobs_in (same i); due = due_in (same i) }
+    where
+      each_keeps : (r : Option VaultState) → IfSome (option_map (passed m) r) (λ vault. vault.due ≡ content_due vault)
+      each_keeps None = tt
+      each_keeps (Some vault) = refl
+
+      kept : (name : List ℕ) → IfSome (map.get (map_values (passed m) a.vaults) name) (λ vault. vault.due ≡ content_due vault)
+      kept name = subst (λ r. IfSome r (λ vault. vault.due ≡ content_due vault)) (sym (get-map_values nat_list_cmp_total (passed m) a.vaults name)) (each_keeps (map.get a.vaults name))

@@ -2,6 +2,7 @@
 use Rattle.std.specs.Prelude.{ℕ, ◌+◌, List, Option, Some, None, Result, Ok, Err, if◌then◌else◌, nat_le, min, slice_index}
 use Rattle.std.specs.FinMap as map
 use Rattle.glacier_base.specs.declared.moment.TheConstants.{LAST_MOMENT}
+use Rattle.glacier_vault.specs.Due.{sooner, job_due}
 use Rattle.glacier_vault.specs.Lawful.{IsLawfulJob}
 use Rattle.glacier_vault.specs.Rows.{Row, changed, draw_refusal, drawn, in_vault}
 use Rattle.glacier_vault.specs.declared.event.Change.{Change}
@@ -56,9 +57,12 @@ new_job rules m ask work = record {
   stage = Waiting;
 }
 
--- the vault with one more job
+-- the vault with one more job that waits
 abbrev pub with_job : ℕ → Job → VaultState → VaultState
-with_job number job vault = record vault { jobs = map.insert vault.jobs number job }
+with_job number job vault = record vault {
+  jobs = map.insert vault.jobs number job;
+  due = sooner vault.due (job_due job);
+}
 
 -- the account in which the vault of a name has one more job, under the account's next number
 abbrev pub after_put : AccountState → ℕ → List ℕ → Job → AccountState

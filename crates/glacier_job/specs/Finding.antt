@@ -2,7 +2,7 @@
 use Rattle.std.specs.Prelude.{ℕ, ◌+◌, Bool, true, not, ◌&&◌, List, Option, Some, None, Result, Ok, Err, if◌then◌else◌, nat_lt, map as each, filter, unwrap_or}
 use Rattle.std.specs.FinMap as map
 use Rattle.std.specs.Ordering.{nat_cmp, is_le}
-use Rattle.glacier_vault.specs.Named.{is_done}
+use Rattle.glacier_vault.specs.Named.{is_done, is_waiting}
 use Rattle.glacier_vault.specs.declared.job.Job.{Job}
 use Rattle.glacier_vault.specs.declared.job.Stage.{Stage}
 use Rattle.glacier_vault.specs.declared.job.Stage.TheVariants as stages
@@ -10,7 +10,6 @@ use Rattle.glacier_vault.specs.declared.refusal.Refusal.{Refusal}
 use Rattle.glacier_vault.specs.declared.refusal.Refusal.TheVariants.{NoVault, NoJob, NotReady, JobFailed, BadByteRange}
 use Rattle.glacier_vault.specs.declared.state.AccountState.{AccountState}
 use Rattle.glacier_vault.specs.declared.state.VaultState.{VaultState}
-use Rattle.glacier_job.specs.Pass.{is_waiting}
 use Rattle.glacier_job.specs.declared.asks.StageName.{StageName}
 use Rattle.glacier_job.specs.declared.asks.StageName.TheVariants.{InProgress, Succeeded, Failed}
 

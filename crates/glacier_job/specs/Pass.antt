@@ -1,14 +1,16 @@
 -- What a moment does to an account: ready jobs are settled, and what has ended goes.
-use Rattle.std.specs.Prelude.{ℕ, ◌+◌, Bool, true, false, not, ◌&&◌, ◌||◌, List, [], Option, Some, None, if◌then◌else◌, nat_le, sum_by, count_by, map as each, filter}
+use Rattle.std.specs.Prelude.{ℕ, ◌+◌, Bool, false, not, ◌&&◌, ◌||◌, List, [], Option, Some, None, if◌then◌else◌, nat_le, sum_by, count_by, map as each, filter}
 use Rattle.std.specs.FinMap as map
 use Rattle.std.specs.List.{list_any, flat_map}
 use Rattle.std.specs.Ordering.{nat_cmp}
 use Rattle.glacier_base.specs.Maps.{map_values, where_entries}
-use Rattle.glacier_vault.specs.Named.{is_named, blobs_of}
+use Rattle.glacier_vault.specs.Due.{content_due}
+use Rattle.glacier_vault.specs.Named.{is_named, is_waiting, blobs_of}
 use Rattle.glacier_vault.specs.Rows.{with_vaults}
 use Rattle.glacier_vault.specs.Totals.{Archives, blocks}
 use Rattle.glacier_vault.specs.declared.archive.Archive.{Archive}
 use Rattle.glacier_vault.specs.declared.archive.Finished.{Finished}
+use Rattle.glacier_vault.specs.declared.due.TheConstants.{DAY}
 use Rattle.glacier_vault.specs.declared.event.Change.{Change}
 use Rattle.glacier_vault.specs.declared.event.Event.TheVariants as events
 use Rattle.glacier_vault.specs.declared.job.Job.{Job}
@@ -20,7 +22,6 @@ use Rattle.glacier_vault.specs.declared.job.Work.TheVariants as works
 use Rattle.glacier_vault.specs.declared.lock.Lock.{Lock}
 use Rattle.glacier_vault.specs.declared.state.AccountState.{AccountState}
 use Rattle.glacier_vault.specs.declared.state.VaultState.{VaultState}
-use Rattle.glacier_job.specs.declared.ending.TheConstants.{DAY}
 
 abbrev pub line_of : ℕ → Archive → Line
 line_of number archive = record {
@@ -55,11 +56,6 @@ settled m archives job = record job { stage = stage_at m archives job }
 abbrev pub is_past : ℕ → ℕ → Bool
 is_past m since = nat_le (since + DAY) m
 
-abbrev pub is_waiting : Stage → Bool
-is_waiting Waiting = true
-is_waiting Failed = false
-is_waiting (Done found) = false
-
 -- a settled job ends a day after it was ready
 abbrev pub has_ended : ℕ → Job → Bool
 has_ended m job = not (is_waiting job.stage) && is_past m job.ready
@@ -83,13 +79,18 @@ abbrev pub lock_after : ℕ → Option Lock → Option Lock
 lock_after m None = None
 lock_after m (Some lock) = if lock_ends m lock then None else Some lock
 
-abbrev pub passed : ℕ → VaultState → VaultState
-passed m vault = record vault {
+-- what the moment leaves in a vault
+abbrev pub left_in : ℕ → VaultState → VaultState
+left_in m vault = record vault {
   jobs = jobs_after m vault;
   held = held_after m vault;
   finished = finished_after m vault.finished;
   lock = lock_after m vault.lock;
 }
+
+-- the vault with that, and with the moment that is due in it
+abbrev pub passed : ℕ → VaultState → VaultState
+passed m vault = record (left_in m vault) { due = content_due (left_in m vault) }
 
 -- the account at the moment m
 abbrev pub pass : ℕ → AccountState → AccountState

@@ -3,6 +3,7 @@ ghost use Rattle.std.specs.Prelude.{◌≡◌, ◌≢◌, ◌≤◌, IfOk, OnOk,
 ghost use Rattle.glacier_vault.specs.Account.{counter_end};
 ghost use Rattle.glacier_vault.specs.Lawful.{IsLawful};
 ghost use Rattle.glacier_vault.specs.Rows.{answer, state_after};
+ghost use Rattle.glacier_vault.specs.declared.job.Stage.TheVariants as stages;
 ghost use Rattle.glacier_job.specs.Beginning.{delay, ready_at, limit_refusal, accepted_work, new_job, after_put, FitsIn, begin_event, begin_row};
 ghost use Rattle.glacier_job.specs.Work.{HasOrderedRange};
 
@@ -10,7 +11,8 @@ use crate::asks::JobAsk;
 use crate::work::work_for;
 use glacier_base::{LAST_MOMENT, Memory, Moment, VaultName};
 use glacier_vault::{
-    AccountState, Change, Event, Job, Refusal, Rules, Stage, Tier, Work, refuse_draw,
+    AccountState, Change, Event, Job, Refusal, Rules, Stage, Tier, Work, job_due, refuse_draw,
+    sooner,
 };
 use std::alloc::Global;
 
@@ -92,8 +94,8 @@ fn event_of(ask: &JobAsk, ready: Moment, work: &Work) -> Event
     }
 }
 
-/// Puts a job into a vault under the account's next number, whatever the limits are. After an `Err`
-/// the state is given up.
+/// Puts a job that waits into a vault under the account's next number, whatever the limits are.
+/// After an `Err` the state is given up.
 pub fn put_job(
     state: &mut AccountState,
     m: Moment,
@@ -104,6 +106,7 @@ pub fn put_job(
     requires lawful { IsLawful state.old }
     requires number { state.old.counter ≢ counter_end }
     requires fits { FitsIn state.old m name.now job }
+    requires waits { job.stage ≡ stages.Waiting }
 
     ensures state { OnOk result (state.new ≡ after_put state.old m name.now job) }
     ensures lawful { OnOk result (IsLawful state.new) }
@@ -111,10 +114,13 @@ pub fn put_job(
     if state.jobs == u64::MAX {
         return Err(Memory);
     }
+    let due = job_due(&job);
     let Some(vault) = state.vaults.get_mut(name) else {
         unreachable!();
     };
     vault.jobs.insert(state.counter, job)?;
+    vault.due = sooner(vault.due, due);
+    state.due = sooner(state.due, due);
     state.counter += 1;
     state.jobs += 1;
     state.last = m;

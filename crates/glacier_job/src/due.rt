@@ -1,59 +1,62 @@
-// Whether a moment settles or ends something.
-ghost use Rattle.std.specs.Prelude.{◌≡◌};
+// Whether a moment settles or ends something, and the next one that does so in a vault.
+ghost use Rattle.std.specs.Prelude.{◌≡◌, None};
 ghost use Rattle.std.specs.FinMap as map;
-ghost use Rattle.std.specs.List.{list_any};
-ghost use Rattle.glacier_job.specs.Pass.{is_past, job_is_due, lock_is_due, vault_is_due, pass_is_event};
+ghost use Rattle.glacier_vault.specs.Due as specs;
+ghost use Rattle.glacier_vault.specs.Lawful.{IsLawful};
+ghost use Rattle.glacier_job.specs.Pass.{pass_is_event};
 
-use crate::ending::{is_day_past, lock_ended};
-use crate::sought::some_held_is_unnamed;
-use crate::stages::waits;
 use glacier_base::{Moment, NumberMap};
-use glacier_vault::{AccountState, Finished, Job, Lock, VaultState};
+use glacier_vault::{AccountState, Finished, Job, VaultState, finished_due, job_due, sooner};
 
-fn is_job_due(m: Moment, job: &Job) -> bool
-    ensures { result ≡ job_is_due m job.now }
+/// The soonest moment at which one of the jobs is settled, or ends.
+#[tactic(auto, using(crate::proofs::DueLemmas::adding))]
+fn due_of_jobs(jobs: &NumberMap<Job>) -> Option<u64>
+    ensures { result ≡ specs.soonest specs.job_due (map.values jobs.now) }
 {
-    if waits(&job.stage) {
-        job.ready <= m
-    } else {
-        is_day_past(m, job.ready)
+    let mut due = None;
+    for job in jobs.values() {
+        due = sooner(due, job_due(job));
     }
+    due
 }
 
-fn some_job_is_due(m: Moment, jobs: &NumberMap<Job>) -> bool
-    ensures { result ≡ list_any (job_is_due m) (map.values jobs.now) }
+/// The soonest moment at which one of the finished uploads ends.
+#[tactic(auto, using(crate::proofs::DueLemmas::adding))]
+fn due_of_finished(finished: &NumberMap<Finished>) -> Option<u64>
+    ensures { result ≡ specs.soonest specs.finished_due (map.values finished.now) }
 {
-    jobs.values().any(|job| is_job_due(m, job))
+    let mut due = None;
+    for upload in finished.values() {
+        due = sooner(due, finished_due(upload));
+    }
+    due
 }
 
-fn some_upload_is_past(m: Moment, finished: &NumberMap<Finished>) -> bool
-    ensures { result ≡ list_any (λ upload. is_past m upload.at) (map.values finished.now) }
+/// The soonest moment from which on a pass changes something in a vault of which each held archive
+/// is named, but for its lock.
+#[tactic(auto, using(crate::proofs::DueLemmas::adding))]
+pub(crate) fn due_of_content(vault: &VaultState) -> Option<u64>
+    requires { specs.held_due vault.now ≡ None }
+    ensures { result ≡ specs.content_due vault.now }
 {
-    finished.values().any(|upload| is_day_past(m, upload.at))
+    sooner(due_of_jobs(&vault.jobs), due_of_finished(&vault.finished))
 }
 
-fn is_lock_due(m: Moment, lock: &Option<Lock>) -> bool
-    ensures { result ≡ lock_is_due m lock.now }
+/// Whether a moment that is kept has come at the moment `m`.
+fn has_come(due: Option<u64>, m: Moment) -> bool
+    ensures { result ≡ specs.has_come m due }
 {
-    match lock {
-        Some(lock) => lock_ended(m, lock),
+    match due {
+        Some(due) => due <= m.seconds(),
         None => false,
     }
 }
 
-fn is_vault_due(m: Moment, vault: &VaultState) -> bool
-    ensures { result ≡ vault_is_due m vault.now }
-{
-    some_job_is_due(m, &vault.jobs)
-        || some_upload_is_past(m, &vault.finished)
-        || is_lock_due(m, &vault.lock)
-        || some_held_is_unnamed(&vault.jobs, &vault.held)
-}
-
 /// Whether the moment `m` settles or ends something in the account, so that `settle` is an event.
-/// It takes no memory, and some j (h / 64 + 64) steps for a vault with j jobs and h held archives.
+/// It takes no memory, and one comparison.
 pub fn is_due(state: &AccountState, m: Moment) -> bool
+    requires lawful { IsLawful state.now }
     ensures { result ≡ pass_is_event m state.now }
 {
-    state.vaults.values().any(|vault| is_vault_due(m, vault))
+    has_come(state.due, m)
 }

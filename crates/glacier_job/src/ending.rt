@@ -2,12 +2,8 @@
 ghost use Rattle.std.specs.Prelude.{◌≡◌};
 ghost use Rattle.glacier_job.specs.Pass.{is_past, has_ended, lock_ends};
 
-use crate::stages::waits;
 use glacier_base::Moment;
-use glacier_vault::{Job, Lock};
-
-/// How long a settled job, a finished upload and a lock in progress are kept, in seconds.
-pub const DAY: u64 = 86_400;
+use glacier_vault::{DAY, Job, Lock, waits};
 
 /// Whether a day has passed since then.
 pub(crate) fn is_day_past(m: Moment, since: Moment) -> bool

@@ -12,15 +12,14 @@ mod naming;
 mod outcomes;
 mod releasing;
 mod settling;
-mod sought;
 mod stages;
 mod work;
 
 pub use asks::{AskKind, JobAsk, StageName};
 pub use beginning::{MOST_JOBS, begin, put_job};
 pub use due::is_due;
-pub use ending::DAY;
 pub use finding::{find, output_range};
+pub use glacier_vault::DAY;
 pub use listing::list;
 pub use settling::settle;
 pub use work::retrieval_of;

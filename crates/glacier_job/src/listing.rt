@@ -4,9 +4,9 @@ ghost use Rattle.glacier_vault.specs.Lists.{page};
 ghost use Rattle.glacier_job.specs.Finding.{is_shown, fits_completed, fits_name, fits, jobs_from};
 
 use crate::asks::StageName;
-use crate::stages::{is_done_stage, waits};
+use crate::stages::is_done_stage;
 use glacier_base::{List, Memory};
-use glacier_vault::{Job, Stage, VaultState};
+use glacier_vault::{Job, Stage, VaultState, waits};
 use std::alloc::Global;
 
 /// Whether a stage is shown by this name.

@@ -3,15 +3,17 @@ ghost use Rattle.std.specs.Prelude.{◌≡◌, ◌≤◌, IfOk, OnOk, not};
 ghost use Rattle.glacier_base.specs.Maps.{map_values, where_entries};
 ghost use Rattle.glacier_vault.specs.Lawful.{IsLawful};
 ghost use Rattle.glacier_vault.specs.Named.{is_named};
-ghost use Rattle.glacier_job.specs.Pass.{settled, has_ended, finished_after, lock_after, passed, pass, pass_change};
+ghost use Rattle.glacier_job.specs.Pass.{settled, has_ended, finished_after, lock_after, left_in, passed, pass, pass_change};
 
-use crate::due::is_due;
+use crate::due::{due_of_content, is_due};
 use crate::ending::{is_day_past, job_ended, lock_ended};
 use crate::naming::named_archives;
 use crate::outcomes::settle_job;
 use crate::releasing::release_all;
 use glacier_base::{Memory, Moment, NumberMap};
-use glacier_vault::{AccountState, Archive, Change, Event, Finished, Job, Lock, VaultState};
+use glacier_vault::{
+    AccountState, Archive, Change, Event, Finished, Job, Lock, VaultState, due_of_vaults,
+};
 use std::alloc::Global;
 
 /// Settles each job.
@@ -75,8 +77,8 @@ fn kept_lock(m: Moment, lock: Option<Lock>) -> Option<Lock>
 }
 
 /// Settles what is in a vault.
-fn settle_vault(alloc: Global, m: Moment, vault: &mut VaultState) -> Result<(), Memory>
-    ensures { OnOk result (vault.new ≡ passed m vault.old) }
+fn settle_content(alloc: Global, m: Moment, vault: &mut VaultState) -> Result<(), Memory>
+    ensures { OnOk result (vault.new ≡ left_in m vault.old) }
 {
     settle_jobs(alloc, m, &vault.archives, &mut vault.jobs)?;
     drop_ended(m, &mut vault.jobs);
@@ -84,6 +86,15 @@ fn settle_vault(alloc: Global, m: Moment, vault: &mut VaultState) -> Result<(), 
     drop_past(m, &mut vault.finished);
     let lock = vault.lock.take();
     vault.lock = kept_lock(m, lock);
+    Ok(())
+}
+
+/// Settles what is in a vault, and finds the moment that is due in what is left.
+fn settle_vault(alloc: Global, m: Moment, vault: &mut VaultState) -> Result<(), Memory>
+    ensures { OnOk result (vault.new ≡ passed m vault.old) }
+{
+    settle_content(alloc, m, vault)?;
+    vault.due = due_of_content(vault);
     Ok(())
 }
 
@@ -123,6 +134,7 @@ pub fn settle(alloc: Global, state: &mut AccountState, m: Moment) -> Result<Chan
     settle_vaults(alloc, m, state)?;
     state.used = used - released.room;
     state.jobs = jobs - released.jobs;
+    state.due = due_of_vaults(&state.vaults);
     state.last = m;
     Ok(Change {
         event: Some(Event::Pass),

@@ -11,4 +11,4 @@ returns c =
     let all : c.loop-name.state.vaults ≡ map_values (passed c.args.m) c.args.state.now.vaults =
     changed_at_each-done nat_list_cmp_total (passed c.args.m) bytes_cmp-IsAntisymmetric _ c.loop-name.name-index c.args.state.now.vaults c.loop-name.state.vaults
     (c.as_slice-name-items.ensures ∙ c.in_ok-names.ensures) (omega arith) c.loop-name.invariant.vaults in
-    λ i. record { last = c.loop-name.invariant.last i; counter = c.loop-name.invariant.counter i; vaults = all i; used = c.loop-name.invariant.used i; uploads = c.loop-name.invariant.uploads i; jobs = c.loop-name.invariant.jobs i }
+    λ i. record { last = c.loop-name.invariant.last i; counter = c.loop-name.invariant.counter i; vaults = all i; used = c.loop-name.invariant.used i; uploads = c.loop-name.invariant.uploads i; jobs = c.loop-name.invariant.jobs i; due = c.loop-name.invariant.due i }

@@ -10,5 +10,6 @@ invariant-loop-name l = record {
   used : l.state.used ≡ l.fn.state.used;
   uploads : l.state.uploads ≡ l.fn.state.uploads;
   jobs : l.state.jobs ≡ l.fn.state.jobs;
+  due : l.state.due ≡ l.fn.state.due;
   vaults : changed_at_each (passed l.m) (drop l.name-index l.name-items) l.state.vaults ≡ changed_at_each (passed l.m) l.name-items l.fn.state.vaults;
 }
