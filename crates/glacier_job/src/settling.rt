@@ -1,6 +1,7 @@
 // What a moment does to an account.
 ghost use Rattle.std.specs.Prelude.{◌≡◌, ◌≤◌, IfOk, OnOk, not};
 ghost use Rattle.glacier_base.specs.Maps.{map_values, where_entries};
+ghost use Rattle.glacier_vault.specs.Due.{due_in};
 ghost use Rattle.glacier_vault.specs.Lawful.{IsLawful};
 ghost use Rattle.glacier_vault.specs.Named.{is_named};
 ghost use Rattle.glacier_job.specs.Pass.{settled, has_ended, finished_after, lock_after, left_in, passed, pass, pass_change};
@@ -112,6 +113,13 @@ fn settle_vaults(alloc: Global, m: Moment, state: &mut AccountState) -> Result<(
     Ok(())
 }
 
+/// Keeps the moment that is due in the vaults as they are.
+fn keep_due(state: &mut AccountState)
+    ensures { state.new ≡ record state.old { due = due_in state.old.vaults } }
+{
+    state.due = due_of_vaults(&state.vaults);
+}
+
 /// Settles the jobs that are ready at the moment `m`, and drops what has ended: jobs, finished
 /// uploads and locks in progress a day old, and the held archives that no finished job names. It is
 /// an event exactly where it changes more than the last moment. After an `Err` the state is given
@@ -132,9 +140,9 @@ pub fn settle(alloc: Global, state: &mut AccountState, m: Moment) -> Result<Chan
     let jobs = state.jobs;
     let released = release_all(alloc, m, state)?;
     settle_vaults(alloc, m, state)?;
+    keep_due(state);
     state.used = used - released.room;
     state.jobs = jobs - released.jobs;
-    state.due = due_of_vaults(&state.vaults);
     state.last = m;
     Ok(Change {
         event: Some(Event::Pass),
