@@ -13,7 +13,7 @@ use std::alloc::Global;
 
 /// The greatest index of a part: an upload has at most 10,000 (Amazon S3 Glacier Developer Guide,
 /// "Uploading Large Archives in Parts").
-const LAST_INDEX: u64 = 9999;
+pub(crate) const LAST_INDEX: u64 = 9999;
 
 /// Whether a part doesn't begin at a multiple of the part size, or is longer.
 fn is_out_of_place(upload: &Upload, ask: &PartAsk) -> bool
