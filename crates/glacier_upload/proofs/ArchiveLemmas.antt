@@ -2,9 +2,10 @@
 use Rattle.std.specs.Prelude.{◌≡◌, ℕ, ◌≤◌, ◌+◌, List, [], ◌∷◌, Some, None, nat_eq, count_by}
 use Rattle.std.specs.Cmp.{nat_cmp_total}
 use Rattle.std.specs.FinMap as map
-use Rattle.std.proofs.Common.{◌∙◌, ap, arith}
+use Rattle.std.proofs.Common.{◌∙◌, ap, sym, refl, arith}
 use Rattle.glacier_base.specs.Maps.{changed_at}
 use Rattle.glacier_base.proofs.Sums.{weight, sum_by-insert}
+use Rattle.glacier_vault.specs.Due.{due_in}
 use Rattle.glacier_vault.specs.Lawful.{IsLawful, IsLawfulVault, IsLawfulArchive}
 use Rattle.glacier_vault.specs.Rows.{in_vault, drawn}
 use Rattle.glacier_vault.specs.Totals.{Archives, Weight, total, blocks, each_upload, each_job, need, naming, used_in, uploads_in, jobs_in, bytes_in}
@@ -12,6 +13,7 @@ use Rattle.glacier_vault.specs.declared.archive.Archive.{Archive}
 use Rattle.glacier_vault.specs.declared.state.AccountState.{AccountState}
 use Rattle.glacier_vault.specs.declared.state.VaultState.{VaultState}
 use Rattle.glacier_vault.proofs.Fresh.{fresh, total-new_archive, lawful-new_archive}
+use Rattle.glacier_vault.proofs.DueLemmas.{due_in-same}
 use Rattle.glacier_vault.proofs.KeepsLawful.{lawful-changed_at, lawful_there}
 use Rattle.glacier_vault.proofs.Later.{later_vault}
 use Rattle.glacier_vault.proofs.TotalsLemmas.{total-changed_at}
@@ -46,6 +48,9 @@ module _ (a : AccountState) (m : ℕ) (le : a.last ≤ m) (lawful : IsLawful a) 
 
     pub jobs-with_archive : a.jobs ≡ jobs_in (changed_at (with_archive a.counter archive) a.vaults name)
     jobs-with_archive = omega (arith, lawful.jobs, total-with_archive each_job)
+
+    pub due-with_archive : a.due ≡ due_in (changed_at (with_archive a.counter archive) a.vaults name)
+    due-with_archive = lawful.due ∙ sym (due_in-same a.vaults name vault there (with_archive a.counter archive) refl)
 
     pub lawful-with_archive : IsLawfulArchive m archive → archive.blobs ≡ a.counter ∷ [] → IsLawful (in_vault (drawn a) m name (with_archive a.counter archive))
     lawful-with_archive right blob_is = lawful-changed_at a (a.counter + 1) m (omega arith) le lawful name vault there (with_archive a.counter archive)

@@ -8,6 +8,7 @@ use Rattle.std.proofs.lemmas.List.{length-map}
 use Rattle.std.proofs.lemmas.List.Sums.{sum_by-cons}
 use Rattle.glacier_base.specs.Maps.{changed_at}
 use Rattle.glacier_base.proofs.LookUps.{if_some-insert}
+use Rattle.glacier_vault.specs.Due.{sooner, finished_due, due_in}
 use Rattle.glacier_vault.specs.Lawful.{IsLawful, IsLawfulVault, IsLawfulArchive, IsLawfulUpload, IsDrawn}
 use Rattle.glacier_vault.specs.Rows.{in_vault, drawn}
 use Rattle.glacier_vault.specs.Totals.{Weight, vault_total, total, upload_total, blocks, each_upload, each_job, naming, used_in, uploads_in, jobs_in}
@@ -17,13 +18,15 @@ use Rattle.glacier_vault.specs.declared.archive.Part.{Part}
 use Rattle.glacier_vault.specs.declared.archive.Upload.{Upload}
 use Rattle.glacier_vault.specs.declared.state.AccountState.{AccountState}
 use Rattle.glacier_vault.specs.declared.state.VaultState.{VaultState}
+use Rattle.glacier_vault.proofs.DueLemmas.{due_in-sooner}
 use Rattle.glacier_vault.proofs.Fresh.{total-new_archive, lawful-new_archive}
 use Rattle.glacier_vault.proofs.KeepsLawful.{lawful-changed_at, lawful_there}
 use Rattle.glacier_vault.proofs.Later.{later_vault}
 use Rattle.glacier_vault.proofs.TotalsLemmas.{sum_by-none, total-changed_at, total-remove}
-use Rattle.glacier_upload.specs.Completion.{covered, has_gap, whole_archive, with_completed, IsWhole}
+use Rattle.glacier_upload.specs.Completion.{covered, has_gap, whole_archive, finished_as, with_completed, IsWhole}
 use Rattle.glacier_upload.specs.Uploads.{part_blobs, without_upload}
 use Rattle.glacier_upload.proofs.CoverLemmas.{blocks_covered, leaves_covered, some_parts}
+use Rattle.glacier_upload.proofs.CompletionDue.{content_due-completed, vault_due-completed}
 use Rattle.glacier_upload.proofs.UploadMaps.{lawful-without_upload, total-without_upload, upload_there}
 
 -- how often a blob stands among those of parts
@@ -42,10 +45,10 @@ module _ (counter m : ℕ) (vault : VaultState) (lawful : IsLawfulVault counter 
   closed = without_upload number vault
 
   abbrev finished : Finished
-  finished = record { at = archive.created; size = archive.size; tree = archive.tree; archive = counter }
+  finished = finished_as counter archive
 
   abbrev answered : VaultState
-  answered = record closed { finished = map.insert vault.finished number finished }
+  answered = record closed { finished = map.insert vault.finished number finished; due = sooner vault.due (finished_due finished) }
 
   right_closed : IsLawfulVault counter m closed
   right_closed = lawful-without_upload counter m vault lawful number
@@ -64,6 +67,7 @@ module _ (counter m : ℕ) (vault : VaultState) (lawful : IsLawfulVault counter 
         ∙ gone n (eq_by_cmp nat_cmp n number) refl (subst IsSome (map.get-insert nat_cmp_total vault.finished number finished n) some);
     jobs = lawful.jobs;
     lock = lawful.lock;
+    due = content_due-completed number counter archive vault counter m lawful upload is_open;
   }
     where
       gone : (n : ℕ) (b : Bool) → eq_by_cmp nat_cmp n number ≡ b → IsSome (cond b (Some finished) (map.get vault.finished n)) → cond b None (map.get vault.uploads n) ≡ None
@@ -104,6 +108,10 @@ module _ (a : AccountState) (lawful : IsLawful a) (name : List ℕ) (vault : Vau
 
     pub jobs-completed : a.jobs ≡ jobs_in (changed_at completed a.vaults name)
     jobs-completed = omega (arith, lawful.jobs, total-completed each_job, sum_by-none (map.values upload.parts))
+
+    pub due-completed : sooner a.due (finished_due (finished_as a.counter (whole_archive m upload))) ≡ due_in (changed_at completed a.vaults name)
+    due-completed = ap (λ due. sooner due (finished_due (finished_as a.counter (whole_archive m upload)))) lawful.due
+        ∙ sym (due_in-sooner a.vaults name vault there completed (finished_due (finished_as a.counter (whole_archive m upload))) (vault_due-completed number a.counter (whole_archive m upload) vault))
 
     -- each blob is named as often as before
     same_names : (blob : ℕ) → vault_total (naming blob) (completed vault) ≡ vault_total (naming blob) vault
@@ -150,6 +158,9 @@ module _ (a : AccountState) (m : ℕ) (le : a.last ≤ m) (lawful : IsLawful a) 
 
   pub jobs-finished : a.jobs ≡ jobs_in (changed_at (with_completed number a.counter archive) a.vaults name)
   jobs-finished = of_whole (λ x. a.jobs ≡ jobs_in (changed_at (with_completed number a.counter x) a.vaults name)) (jobs-completed a lawful name vault there number fits.upload opened_there m)
+
+  pub due-finished : sooner a.due (finished_due (finished_as a.counter archive)) ≡ due_in (changed_at (with_completed number a.counter archive) a.vaults name)
+  due-finished = of_whole (λ x. sooner a.due (finished_due (finished_as a.counter x)) ≡ due_in (changed_at (with_completed number a.counter x) a.vaults name)) (due-completed a lawful name vault there number fits.upload opened_there m)
 
   pub lawful-finished : IsLawful (in_vault (drawn a) m name (with_completed number a.counter archive))
   lawful-finished = of_whole (λ x. IsLawful (in_vault (drawn a) m name (with_completed number a.counter x))) (lawful-completed a lawful name vault there number fits.upload opened_there m fits.no_gap fits.some le)

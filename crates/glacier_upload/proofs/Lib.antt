@@ -1,5 +1,6 @@
 pub mod Accepted
 pub mod ArchiveLemmas
+pub mod CompletionDue
 pub mod CompletionLemmas
 pub mod CompletionRow
 pub mod CoverLemmas

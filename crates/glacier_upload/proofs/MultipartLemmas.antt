@@ -2,9 +2,10 @@
 use Rattle.std.specs.Prelude.{◌≡◌, ℕ, ◌≤◌, ◌+◌, ◌-◌, Bool, true, false, cond, not, List, Some, None, nat_le, sum_by}
 use Rattle.std.specs.FinMap as map
 use Rattle.std.specs.Ordering.{nat_cmp}
-use Rattle.std.proofs.Common.{ap, refl, arith}
+use Rattle.std.proofs.Common.{◌∙◌, ap, sym, refl, arith}
 use Rattle.glacier_base.specs.Maps.{changed_at}
 use Rattle.glacier_base.proofs.LookUps.{if_some-empty}
+use Rattle.glacier_vault.specs.Due.{due_in}
 use Rattle.glacier_vault.specs.Lawful.{IsLawful, IsLawfulVault, IsLawfulUpload, IsLawfulPart}
 use Rattle.glacier_vault.specs.PartSizes.{is_part_size}
 use Rattle.glacier_vault.specs.Rows.{in_vault, drawn, draw_refusal}
@@ -13,6 +14,7 @@ use Rattle.glacier_vault.specs.declared.archive.Upload.{Upload}
 use Rattle.glacier_vault.specs.declared.refusal.Refusal.TheVariants.{BadPartSize, NoVault, UploadLimit}
 use Rattle.glacier_vault.specs.declared.state.AccountState.{AccountState}
 use Rattle.glacier_vault.specs.declared.state.VaultState.{VaultState}
+use Rattle.glacier_vault.proofs.DueLemmas.{due_in-same}
 use Rattle.glacier_vault.proofs.KeepsLawful.{lawful-changed_at, lawful_there}
 use Rattle.glacier_vault.proofs.Later.{later_vault}
 use Rattle.glacier_vault.proofs.TotalsLemmas.{sum_by-empty, sum_by-none, total-changed_at, total-remove}
@@ -64,6 +66,9 @@ module _ (a : AccountState) (m : ℕ) (le : a.last ≤ m) (lawful : IsLawful a) 
     pub jobs-begun : a.jobs ≡ jobs_in (changed_at (with_upload a.counter upload) a.vaults name)
     jobs-begun = omega (arith, lawful.jobs, total-begun each_job)
 
+    pub due-begun : a.due ≡ due_in (changed_at (with_upload a.counter upload) a.vaults name)
+    due-begun = lawful.due ∙ sym (due_in-same a.vaults name vault there (with_upload a.counter upload) refl)
+
     pub lawful-begun : IsLawfulUpload m upload → IsLawful (in_vault (drawn a) m name (with_upload a.counter upload))
     lawful-begun right = lawful-changed_at a (a.counter + 1) m (omega arith) le lawful name vault there (with_upload a.counter upload)
         (lawful-with_upload a.counter m vault later upload right)
@@ -91,6 +96,9 @@ module _ (a : AccountState) (m : ℕ) (le : a.last ≤ m) (lawful : IsLawful a) 
 
     pub jobs-aborted : a.jobs ≡ jobs_in (changed_at (without_upload number) a.vaults name)
     jobs-aborted = omega (arith, lawful.jobs, total-aborted each_job, sum_by-none (map.values upload.parts))
+
+    pub due-aborted : a.due ≡ due_in (changed_at (without_upload number) a.vaults name)
+    due-aborted = lawful.due ∙ sym (due_in-same a.vaults name vault there (without_upload number) refl)
 
     pub lawful-aborted : IsLawful (in_vault a m name (without_upload number))
     lawful-aborted = lawful-changed_at a a.counter m (omega arith) le lawful name vault there (without_upload number)

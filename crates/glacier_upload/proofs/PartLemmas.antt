@@ -2,10 +2,11 @@
 use Rattle.std.specs.Prelude.{◌≡◌, ℕ, ◌≤◌, ◌<◌, ◌+◌, ◌-◌, cond, List, Option, Some, None, nat_eq, sum_by}
 use Rattle.std.specs.Cmp.{nat_cmp_total}
 use Rattle.std.specs.FinMap as map
-use Rattle.std.proofs.Common.{ap, refl, subst, arith}
+use Rattle.std.proofs.Common.{◌∙◌, ap, sym, refl, subst, arith}
 use Rattle.glacier_base.specs.Maps.{changed_at}
 use Rattle.glacier_base.proofs.LookUps.{if_some-insert}
 use Rattle.glacier_base.proofs.Sums.{weight, sum_by-remove}
+use Rattle.glacier_vault.specs.Due.{due_in}
 use Rattle.glacier_vault.specs.Lawful.{IsLawful, IsLawfulVault, IsLawfulUpload, IsLawfulPart}
 use Rattle.glacier_vault.specs.Rows.{in_vault, drawn}
 use Rattle.glacier_vault.specs.Totals.{Weight, vault_total, total, blocks, each_upload, each_job, need, naming, used_in, uploads_in, jobs_in}
@@ -13,6 +14,7 @@ use Rattle.glacier_vault.specs.declared.archive.Part.{Part}
 use Rattle.glacier_vault.specs.declared.archive.Upload.{Upload}
 use Rattle.glacier_vault.specs.declared.state.AccountState.{AccountState}
 use Rattle.glacier_vault.specs.declared.state.VaultState.{VaultState}
+use Rattle.glacier_vault.proofs.DueLemmas.{due_in-same}
 use Rattle.glacier_vault.proofs.KeepsLawful.{lawful-changed_at, lawful_there}
 use Rattle.glacier_vault.proofs.Later.{later_vault}
 use Rattle.glacier_vault.proofs.PartSizeLemmas.{part_size-some}
@@ -68,6 +70,9 @@ module _ (a : AccountState) (m : ℕ) (le : a.last ≤ m) (lawful : IsLawful a) 
 
     pub jobs-with_part : a.jobs ≡ jobs_in (changed_at (in_upload number (with_part index part)) a.vaults name)
     jobs-with_part = omega (arith, lawful.jobs, total-with_part each_job, nothing (map.get upload.parts index))
+
+    pub due-with_part : a.due ≡ due_in (changed_at (in_upload number (with_part index part)) a.vaults name)
+    due-with_part = lawful.due ∙ sym (due_in-same a.vaults name vault there (in_upload number (with_part index part)) refl)
 
     pub lawful-with_part : IsLawfulPart upload.part_size index part → part.blob ≡ a.counter → IsLawful (in_vault (drawn a) m name (in_upload number (with_part index part)))
     lawful-with_part right blob_is = lawful-changed_at a (a.counter + 1) m (omega arith) le lawful name vault there (in_upload number (with_part index part))

@@ -47,6 +47,7 @@ module _ (counter last : ℕ) (vault : VaultState) (lawful : IsLawfulVault count
               ∙ lawful.open_or_finished n some;
           jobs = up.jobs;
           lock = up.lock;
+          due = lawful.due;
         }
 
   module _ (number : ℕ) where
@@ -62,6 +63,7 @@ module _ (counter last : ℕ) (vault : VaultState) (lawful : IsLawfulVault count
       open_or_finished = λ n some. map.get-remove nat_cmp_total vault.uploads number n ∙ none (eq_by_cmp nat_cmp n number) (map.get vault.uploads n) (lawful.open_or_finished n some);
       jobs = lawful.jobs;
       lock = lawful.lock;
+      due = lawful.due;
     }
       where
         none : (b : Bool) (r : Option Upload) → r ≡ None → cond b None r ≡ None
@@ -92,6 +94,7 @@ module _ (counter last : ℕ) (vault : VaultState) (lawful : IsLawfulVault count
         open_or_finished = λ n some. get-changed_at nat_cmp_total f vault.uploads number n ∙ none (eq_by_cmp nat_cmp n number) (map.get vault.uploads n) (lawful.open_or_finished n some);
         jobs = lawful.jobs;
         lock = lawful.lock;
+        due = lawful.due;
       }
         where
           none : (b : Bool) (r : Option Upload) → r ≡ None → cond b (option_map f r) r ≡ None

@@ -4,8 +4,10 @@ use Rattle.std.specs.FinMap as map
 use Rattle.std.specs.List.{list_any, flat_map}
 use Rattle.glacier_treehash.specs.Roots.{root_of_digests}
 use Rattle.glacier_vault.specs.Account.{counter_end}
+use Rattle.glacier_vault.specs.Due.{sooner, finished_due}
 use Rattle.glacier_vault.specs.Rows.{Row, no_change, changed, in_vault, drawn, draw_refusal, with_archives}
 use Rattle.glacier_vault.specs.declared.archive.Archive.{Archive}
+use Rattle.glacier_vault.specs.declared.archive.Finished.{Finished}
 use Rattle.glacier_vault.specs.declared.archive.Part.{Part}
 use Rattle.glacier_vault.specs.declared.archive.Upload.{Upload}
 use Rattle.glacier_vault.specs.declared.event.Change.{Change}
@@ -61,11 +63,16 @@ whole_archive m upload = record {
   blobs = part_blobs upload;
 }
 
+-- the upload that was completed as an archive of this number
+abbrev pub finished_as : ℕ → Archive → Finished
+finished_as archive_number archive = record { at = archive.created; size = archive.size; tree = archive.tree; archive = archive_number }
+
 -- the vault in which the open upload of a number became an archive of another number
 abbrev pub with_completed : ℕ → ℕ → Archive → VaultState → VaultState
 with_completed number archive_number archive vault = record (with_archives vault (map.insert vault.archives archive_number archive)) {
   uploads = map.remove vault.uploads number;
-  finished = map.insert vault.finished number (record { at = archive.created; size = archive.size; tree = archive.tree; archive = archive_number });
+  finished = map.insert vault.finished number (finished_as archive_number archive);
+  due = sooner vault.due (finished_due (finished_as archive_number archive));
 }
 
 -- an archive that the open upload of a number, in the vault of a name, can become at the moment m

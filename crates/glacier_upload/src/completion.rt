@@ -10,7 +10,8 @@ use crate::bodies::root;
 use crate::covering::{all_leaves, covered_bytes, leaves_gap};
 use glacier_base::{Digest, Memory, Moment, VaultName};
 use glacier_vault::{
-    AccountState, Archive, Change, Event, Finished, Refusal, Upload, VaultState, refuse_draw,
+    AccountState, Archive, Change, Event, Finished, Refusal, Upload, VaultState, finished_due,
+    refuse_draw, sooner,
 };
 use std::alloc::Global;
 
@@ -107,6 +108,7 @@ pub fn finish_upload(
         tree: archive.tree,
         archive: state.counter,
     };
+    let due = finished_due(&finished);
     let uploads = state.uploads;
     let Some(vault) = state.vaults.get_mut(name) else {
         unreachable!();
@@ -114,6 +116,8 @@ pub fn finish_upload(
     insert_archive(vault, state.counter, archive)?;
     let _ = vault.uploads.remove(upload);
     vault.finished.insert(upload, finished)?;
+    vault.due = sooner(vault.due, due);
+    state.due = sooner(state.due, due);
     state.uploads = uploads - 1;
     state.counter += 1;
     state.last = m;

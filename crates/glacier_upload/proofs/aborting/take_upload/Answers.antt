@@ -1,7 +1,7 @@
 use Rattle.std.proofs.Common.{sym, subst, arith}
 use Rattle.std.proofs.lemmas.Grind.{common_steps}
 use Rattle.glacier_vault.specs.Lawful.{IsLawful}
-use Rattle.glacier_upload.proofs.MultipartLemmas.{upload_within, upload_counted, used-aborted, uploads-aborted, jobs-aborted, lawful-aborted}
+use Rattle.glacier_upload.proofs.MultipartLemmas.{upload_within, upload_counted, used-aborted, uploads-aborted, jobs-aborted, due-aborted, lawful-aborted}
 use Rattle.glacier_upload.proofs.aborting.take_upload.Goals as goal
 
 pub all_blocks-requires : goal.all_blocks-requires
@@ -20,6 +20,7 @@ returns-clause-ok c =
     let used = used-aborted c.args.state.now c.args.m c.requires.time c.requires.lawful c.args.name.now c.in-Some.vault.now there c.args.upload c.in-Some-remove.open is_open in
     let uploads = uploads-aborted c.args.state.now c.args.m c.requires.time c.requires.lawful c.args.name.now c.in-Some.vault.now there c.args.upload c.in-Some-remove.open is_open in
     let jobs = jobs-aborted c.args.state.now c.args.m c.requires.time c.requires.lawful c.args.name.now c.in-Some.vault.now there c.args.upload c.in-Some-remove.open is_open in
+    let due = due-aborted c.args.state.now c.args.m c.requires.time c.requires.lawful c.args.name.now c.in-Some.vault.now there c.args.upload c.in-Some-remove.open is_open in
     grind (arith, common_steps)
 
 pub returns-clause-lawful : goal.returns-clause-lawful

@@ -2,7 +2,7 @@ use Rattle.std.proofs.Common.{sym, subst, arith}
 use Rattle.std.proofs.lemmas.Grind.{common_steps}
 use Rattle.glacier_vault.specs.Lawful.{IsLawful}
 use Rattle.glacier_upload.proofs.ArchiveLemmas.{right_vault, next_archive}
-use Rattle.glacier_upload.proofs.CompletionLemmas.{counted, used-finished, uploads-finished, jobs-finished, lawful-finished}
+use Rattle.glacier_upload.proofs.CompletionLemmas.{counted, used-finished, uploads-finished, jobs-finished, due-finished, lawful-finished}
 use Rattle.glacier_upload.proofs.completion.finish_upload.Goals as goal
 
 pub insert_archive-requires-clause-bytes : goal.insert_archive-requires-clause-bytes
@@ -22,6 +22,7 @@ returns-clause-ok c =
     let used = used-finished c.args.state.now c.args.m c.requires.time c.requires.lawful c.args.name.now c.args.upload c.args.archive c.requires.fits c.in-Some.vault.now there in
     let uploads = uploads-finished c.args.state.now c.args.m c.requires.time c.requires.lawful c.args.name.now c.args.upload c.args.archive c.requires.fits c.in-Some.vault.now there in
     let jobs = jobs-finished c.args.state.now c.args.m c.requires.time c.requires.lawful c.args.name.now c.args.upload c.args.archive c.requires.fits c.in-Some.vault.now there in
+    let due = due-finished c.args.state.now c.args.m c.requires.time c.requires.lawful c.args.name.now c.args.upload c.args.archive c.requires.fits c.in-Some.vault.now there in
     grind (arith, common_steps)
 
 pub returns-clause-lawful : goal.returns-clause-lawful

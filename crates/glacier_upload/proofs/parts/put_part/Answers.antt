@@ -1,7 +1,7 @@
 use Rattle.std.proofs.Common.{sym, subst, arith}
 use Rattle.std.proofs.lemmas.Grind.{common_steps}
 use Rattle.glacier_vault.specs.Lawful.{IsLawful}
-use Rattle.glacier_upload.proofs.PartLemmas.{room_replaced, used-with_part, uploads-with_part, jobs-with_part, lawful-with_part, fits_right}
+use Rattle.glacier_upload.proofs.PartLemmas.{room_replaced, used-with_part, uploads-with_part, jobs-with_part, due-with_part, lawful-with_part, fits_right}
 use Rattle.glacier_upload.proofs.parts.put_part.Goals as goal
 
 pub overflow_sub-state : goal.overflow_sub-state
@@ -21,6 +21,7 @@ returns-clause-ok c =
     let used = used-with_part c.args.state.now c.args.m c.requires.time c.requires.lawful c.args.name.now c.in-Some-get_mut.vault.now there c.args.upload c.in-Some-get_mut-2.open.now is_open c.args.index c.args.part in
     let uploads = uploads-with_part c.args.state.now c.args.m c.requires.time c.requires.lawful c.args.name.now c.in-Some-get_mut.vault.now there c.args.upload c.in-Some-get_mut-2.open.now is_open c.args.index c.args.part in
     let jobs = jobs-with_part c.args.state.now c.args.m c.requires.time c.requires.lawful c.args.name.now c.in-Some-get_mut.vault.now there c.args.upload c.in-Some-get_mut-2.open.now is_open c.args.index c.args.part in
+    let due = due-with_part c.args.state.now c.args.m c.requires.time c.requires.lawful c.args.name.now c.in-Some-get_mut.vault.now there c.args.upload c.in-Some-get_mut-2.open.now is_open c.args.index c.args.part in
     grind (arith, common_steps)
 
 pub returns-clause-lawful : goal.returns-clause-lawful
