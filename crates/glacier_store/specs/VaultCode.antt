@@ -127,7 +127,7 @@ job_code =
 
 pub vault_code : Coded VaultState
 vault_code =
-    code_by (ℕ × (map.FinMap nat_cmp Archive × (ℕ × (map.FinMap nat_cmp Archive × (map.FinMap nat_cmp Upload × (map.FinMap nat_cmp Finished × (map.FinMap nat_cmp Job × Option Lock))))))) (coded× coded_ℕ (coded× (map.code coded_ℕ archive_code) (coded× coded_ℕ (coded× (map.code coded_ℕ archive_code) (coded× (map.code coded_ℕ upload_code) (coded× (map.code coded_ℕ finished_code) (coded× (map.code coded_ℕ job_code) (coded_option lock_code))))))))
-    (λ v. (v.created, (v.archives, (v.bytes, (v.held, (v.uploads, (v.finished, (v.jobs, v.lock))))))))
-    (λ p. record { created = p.0; archives = p.1.0; bytes = p.1.1.0; held = p.1.1.1.0; uploads = p.1.1.1.1.0; finished = p.1.1.1.1.1.0; jobs = p.1.1.1.1.1.1.0; lock = p.1.1.1.1.1.1.1 })
+    code_by (ℕ × (map.FinMap nat_cmp Archive × (ℕ × (map.FinMap nat_cmp Archive × (map.FinMap nat_cmp Upload × (map.FinMap nat_cmp Finished × (map.FinMap nat_cmp Job × (Option Lock × Option ℕ)))))))) (coded× coded_ℕ (coded× (map.code coded_ℕ archive_code) (coded× coded_ℕ (coded× (map.code coded_ℕ archive_code) (coded× (map.code coded_ℕ upload_code) (coded× (map.code coded_ℕ finished_code) (coded× (map.code coded_ℕ job_code) (coded× (coded_option lock_code) (coded_option coded_ℕ)))))))))
+    (λ v. (v.created, (v.archives, (v.bytes, (v.held, (v.uploads, (v.finished, (v.jobs, (v.lock, v.due)))))))))
+    (λ p. record { created = p.0; archives = p.1.0; bytes = p.1.1.0; held = p.1.1.1.0; uploads = p.1.1.1.1.0; finished = p.1.1.1.1.1.0; jobs = p.1.1.1.1.1.1.0; lock = p.1.1.1.1.1.1.1.0; due = p.1.1.1.1.1.1.1.1 })
     (λ _. refl)
