@@ -1,11 +1,8 @@
 pub mod Codec
 pub mod EventFields
 pub mod Fields
-pub mod Fitting
 pub mod KeptFields
-pub mod Putting
 pub mod Reading
-pub mod Restoring
 pub mod Room
 pub mod Spells
 pub mod Taken

@@ -1,9 +1,0 @@
-use Rattle.std.proofs.Common.{arith}
-use Rattle.std.proofs.lemmas.Grind.{common_steps}
-use Rattle.glacier_records.proofs.VaultLemmas.{bytes-insert}
-use Rattle.glacier_records.proofs.putting.insert_archive.Goals as goal
-
-pub returns : goal.returns
-returns c =
-    let bytes = bytes-insert c.args.vault.now.archives c.args.number c.args.archive c.requires.missing in
-    grind (arith, common_steps)

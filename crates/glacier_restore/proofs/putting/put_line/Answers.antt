@@ -1,0 +1,12 @@
+use Rattle.std.proofs.Common.{sym, arith}
+use Rattle.std.proofs.lemmas.Grind.{common_steps}
+use Rattle.glacier_restore.proofs.PutLemmas.{line_grown}
+use Rattle.glacier_restore.proofs.putting.put_line.Goals as goal
+
+pub returns-in_ok-push-clause-state : goal.returns-in_ok-push-clause-state
+returns-in_ok-push-clause-state c =
+    let grown = line_grown c.args.state.now c.requires.lawful c.args.name.now c.in-Some.vault.now (sym c.in-Some.ensures) c.args.job c.in-Some-get.done.now (sym c.in-Some-get.ensures) c.args.line in
+    let used = grown.used in
+    let uploads = grown.uploads in
+    let jobs = grown.jobs in
+    grind (arith, common_steps)

@@ -1,0 +1,272 @@
+// What an item of a snapshot is put into.
+ghost use Rattle.std.specs.Prelude.{◌≡◌, IfOk, OnOk, is_some, unwrap_or, None};
+ghost use Rattle.std.specs.FinMap as map;
+ghost use Rattle.glacier_vault.specs.Lawful.{IsLawful, IsLawfulBody};
+ghost use Rattle.glacier_vault.specs.Totals.{bytes_in};
+ghost use Rattle.glacier_restore.specs.Putting.{put_account, put_vault, put_archive, put_upload, put_part, put_finished, put_job, put_line, put_lock, with_archive};
+
+use crate::fitting;
+use glacier_base::{Memory, Moment, VaultName};
+use glacier_vault::{
+    AccountState, Archive, Finished, Job, Line, Lock, Part, Stage, Upload, VaultState, blocks_of,
+};
+use std::alloc::Global;
+
+/// Begins an account that was never seen, with its last moment and its counter.
+pub(crate) fn put_account(state: &mut AccountState, m: Moment, counter: u64) -> bool
+    ensures fits { result ≡ is_some (put_account state.old m counter) }
+    ensures state { state.new ≡ unwrap_or (put_account state.old m counter) state.old }
+{
+    if !fitting::is_unseen(state) {
+        return false;
+    }
+    state.last = m;
+    state.counter = counter;
+    true
+}
+
+/// Puts an empty vault that was made at the moment `m` into an account.
+pub(crate) fn put_vault(
+    alloc: Global,
+    state: &mut AccountState,
+    m: Moment,
+    name: &VaultName,
+) -> Result<bool, Memory>
+    requires lawful { IsLawful state.old }
+    ensures fits { IfOk result (λ fits. fits ≡ is_some (put_vault state.old m name.now)) }
+    ensures state { OnOk result (state.new ≡ unwrap_or (put_vault state.old m name.now) state.old) }
+{
+    if state.vaults.contains(name) {
+        return Ok(false);
+    }
+    if m > state.last {
+        return Ok(false);
+    }
+    state.vaults.insert(*name, VaultState::new(alloc, m))?;
+    Ok(true)
+}
+
+/// Puts an archive at a number that a vault doesn't have, live or held.
+fn insert_archive(
+    vault: &mut VaultState,
+    held: bool,
+    number: u64,
+    archive: Archive,
+) -> Result<(), Memory>
+    requires bytes { vault.old.bytes ≡ bytes_in vault.old.archives }
+    requires missing { map.get vault.old.archives number ≡ None }
+    ensures { OnOk result (vault.new ≡ with_archive held number archive vault.old) }
+{
+    if held {
+        return vault.held.insert(number, archive);
+    }
+    let Some(bytes) = vault.bytes.checked_add(archive.size) else {
+        return Err(Memory);
+    };
+    vault.archives.insert(number, archive)?;
+    vault.bytes = bytes;
+    Ok(())
+}
+
+/// Puts an archive into a vault, live or held. A sum that is no `u64` is want of memory.
+pub(crate) fn put_archive(
+    state: &mut AccountState,
+    name: &VaultName,
+    held: bool,
+    number: u64,
+    archive: Archive,
+) -> Result<bool, Memory>
+    requires lawful { IsLawful state.old }
+    requires body { IsLawfulBody archive.size archive.leaves archive.tree }
+    ensures fits { IfOk result (λ fits. fits ≡ is_some (put_archive state.old name.now held number archive)) }
+    ensures state { OnOk result
+        (state.new ≡ unwrap_or (put_archive state.old name.now held number archive) state.old) }
+{
+    let Some(vault) = state.vaults.get(name) else {
+        return Ok(false);
+    };
+    if !fitting::takes_archive(state, number, &archive, vault) {
+        return Ok(false);
+    }
+    let Some(used) = state.used.checked_add(blocks_of(archive.size)) else {
+        return Err(Memory);
+    };
+    let Some(vault) = state.vaults.get_mut(name) else {
+        unreachable!();
+    };
+    insert_archive(vault, held, number, archive)?;
+    state.used = used;
+    Ok(true)
+}
+
+/// Puts an open upload that has no parts yet into a vault.
+pub(crate) fn put_upload(
+    state: &mut AccountState,
+    name: &VaultName,
+    number: u64,
+    upload: Upload,
+) -> Result<bool, Memory>
+    requires lawful { IsLawful state.old }
+    requires bare { upload.parts ≡ map.empty }
+    ensures fits { IfOk result (λ fits. fits ≡ is_some (put_upload state.old name.now number upload)) }
+    ensures state { OnOk result
+        (state.new ≡ unwrap_or (put_upload state.old name.now number upload) state.old) }
+{
+    let Some(vault) = state.vaults.get(name) else {
+        return Ok(false);
+    };
+    if !fitting::takes_upload(state, number, &upload, vault) {
+        return Ok(false);
+    }
+    let Some(uploads) = state.uploads.checked_add(1) else {
+        return Err(Memory);
+    };
+    let Some(vault) = state.vaults.get_mut(name) else {
+        unreachable!();
+    };
+    vault.uploads.insert(number, upload)?;
+    state.uploads = uploads;
+    Ok(true)
+}
+
+/// Puts a part into an open upload.
+pub(crate) fn put_part(
+    state: &mut AccountState,
+    name: &VaultName,
+    upload: u64,
+    index: u32,
+    part: Part,
+) -> Result<bool, Memory>
+    requires lawful { IsLawful state.old }
+    ensures fits { IfOk result (λ fits. fits ≡ is_some (put_part state.old name.now upload index part)) }
+    ensures state { OnOk result
+        (state.new ≡ unwrap_or (put_part state.old name.now upload index part) state.old) }
+{
+    let Some(vault) = state.vaults.get(name) else {
+        return Ok(false);
+    };
+    let Some(open) = vault.uploads.get(upload) else {
+        return Ok(false);
+    };
+    if !fitting::takes_part(state, index, &part, open) {
+        return Ok(false);
+    }
+    let Some(used) = state.used.checked_add(blocks_of(part.size)) else {
+        return Err(Memory);
+    };
+    let Some(vault) = state.vaults.get_mut(name) else {
+        unreachable!();
+    };
+    let Some(open) = vault.uploads.get_mut(upload) else {
+        unreachable!();
+    };
+    open.parts.insert(index, part)?;
+    state.used = used;
+    Ok(true)
+}
+
+/// Puts a finished upload into a vault.
+pub(crate) fn put_finished(
+    state: &mut AccountState,
+    name: &VaultName,
+    number: u64,
+    finished: Finished,
+) -> Result<bool, Memory>
+    requires lawful { IsLawful state.old }
+    ensures fits { IfOk result (λ fits. fits ≡ is_some (put_finished state.old name.now number finished)) }
+    ensures state { OnOk result
+        (state.new ≡ unwrap_or (put_finished state.old name.now number finished) state.old) }
+{
+    let Some(vault) = state.vaults.get(name) else {
+        return Ok(false);
+    };
+    if !fitting::takes_finished(state, number, &finished, vault) {
+        return Ok(false);
+    }
+    let Some(vault) = state.vaults.get_mut(name) else {
+        unreachable!();
+    };
+    vault.finished.insert(number, finished)?;
+    Ok(true)
+}
+
+/// Puts a job into a vault.
+pub(crate) fn put_job(
+    state: &mut AccountState,
+    name: &VaultName,
+    number: u64,
+    job: Job,
+) -> Result<bool, Memory>
+    requires lawful { IsLawful state.old }
+    ensures fits { IfOk result (λ fits. fits ≡ is_some (put_job state.old name.now number job)) }
+    ensures state { OnOk result
+        (state.new ≡ unwrap_or (put_job state.old name.now number job) state.old) }
+{
+    let Some(vault) = state.vaults.get(name) else {
+        return Ok(false);
+    };
+    if !fitting::takes_job(state, number, &job, vault) {
+        return Ok(false);
+    }
+    let Some(jobs) = state.jobs.checked_add(1) else {
+        return Err(Memory);
+    };
+    let Some(vault) = state.vaults.get_mut(name) else {
+        unreachable!();
+    };
+    vault.jobs.insert(number, job)?;
+    state.jobs = jobs;
+    Ok(true)
+}
+
+/// Puts a line into an inventory that is done.
+pub(crate) fn put_line(
+    state: &mut AccountState,
+    name: &VaultName,
+    job: u64,
+    line: Line,
+) -> Result<bool, Memory>
+    requires lawful { IsLawful state.old }
+    ensures fits { IfOk result (λ fits. fits ≡ is_some (put_line state.old name.now job line)) }
+    ensures state { OnOk result
+        (state.new ≡ unwrap_or (put_line state.old name.now job line) state.old) }
+{
+    let Some(vault) = state.vaults.get(name) else {
+        return Ok(false);
+    };
+    let Some(done) = vault.jobs.get(job) else {
+        return Ok(false);
+    };
+    if !fitting::takes_line(&line, done) {
+        return Ok(false);
+    }
+    let Some(vault) = state.vaults.get_mut(name) else {
+        unreachable!();
+    };
+    let Some(done) = vault.jobs.get_mut(job) else {
+        unreachable!();
+    };
+    if let Stage::Done(lines) = &mut done.stage {
+        lines.push(line)?;
+    }
+    Ok(true)
+}
+
+/// Puts a lock into a vault.
+pub(crate) fn put_lock(state: &mut AccountState, name: &VaultName, lock: Lock) -> bool
+    requires lawful { IsLawful state.old }
+    ensures fits { result ≡ is_some (put_lock state.old name.now lock) }
+    ensures state { state.new ≡ unwrap_or (put_lock state.old name.now lock) state.old }
+{
+    let Some(vault) = state.vaults.get(name) else {
+        return false;
+    };
+    if !fitting::takes_lock(state, &lock, vault) {
+        return false;
+    }
+    let Some(vault) = state.vaults.get_mut(name) else {
+        unreachable!();
+    };
+    vault.lock = Some(lock);
+    true
+}
