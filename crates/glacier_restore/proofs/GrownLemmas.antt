@@ -52,6 +52,7 @@ module _ (a : AccountState) (lawful : IsLawful a) where
         used = refl;
         uploads = refl;
         jobs = refl;
+        due = refl;
         blobs = λ blob. record {
           once = omega (arith, total-grown (naming blob), (new blob).once);
           drawn = λ high. omega (arith, total-grown (naming blob), (lawful.blobs blob).drawn high, (new blob).drawn high);

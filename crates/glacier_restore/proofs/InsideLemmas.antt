@@ -23,6 +23,7 @@ use Rattle.glacier_vault.specs.declared.state.AccountState.{AccountState}
 use Rattle.glacier_vault.specs.declared.state.VaultState.{VaultState}
 use Rattle.glacier_restore.specs.Fitting.{takes_part, takes_line}
 use Rattle.glacier_restore.specs.Putting.{with_part, in_upload, with_line, in_job}
+use Rattle.glacier_restore.proofs.MomentLemmas.{content_due-line}
 use Rattle.glacier_restore.proofs.NamedLemmas.{not_true}
 use Rattle.glacier_restore.proofs.VaultLemmas.{le_of, none_there, right_uploads, right_jobs}
 
@@ -79,7 +80,7 @@ module _ (a : AccountState) (vault : VaultState) (lawful : IsLawfulVault a.count
       job_after = record { drawn = job_there.drawn; right = record { created = job_there.right.created; work = still_work job.stage _ job.work takes } }
 
       pub right_with_line : IsLawfulVault a.counter a.last (in_job number line vault)
-      right_with_line = right_jobs a vault lawful _
+      right_with_line = right_jobs a vault lawful _ vault.due (lawful.due ∙ sym (content_due-line vault number job there line))
           (λ n. if_some-changed_at nat_cmp_total map.nat_cmp-IsAntisymmetric (IsDrawn a.counter (IsLawfulJob a.counter a.last vault.archives vault.held)) vault.jobs number n (with_line line)
           (λ v e. subst (λ r. IfSome r (λ v. IsDrawn a.counter (IsLawfulJob a.counter a.last vault.archives vault.held) number (with_line line v))) (sym there ∙ e) job_after) (lawful.jobs n))
 

@@ -1,5 +1,7 @@
+pub mod AnyLemmas
 pub mod GrownLemmas
 pub mod InsideLemmas
+pub mod MomentLemmas
 pub mod NamedLemmas
 pub mod PutLemmas
 pub mod RestoredLemmas

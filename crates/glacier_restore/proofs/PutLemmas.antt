@@ -25,9 +25,20 @@ use Rattle.glacier_restore.specs.Restoring.{is_named, numbers_of}
 use Rattle.glacier_records.specs.declared.kept.Blob.{Blob}
 use Rattle.glacier_restore.proofs.GrownLemmas.{NamesNew, GrowsBy, names_none, right_vault, grown, lawful-grown}
 use Rattle.glacier_restore.proofs.InsideLemmas.{right_with_part, part_grows, right_with_line, line_grows}
-use Rattle.glacier_restore.proofs.NamedLemmas.{one_if, new_counts, times, apart_once, apart_drawn, listed_is_new}
+use Rattle.glacier_restore.proofs.NamedLemmas.{neither, not_true, one_if, new_counts, times, apart_once, apart_drawn, listed_is_new}
 use Rattle.glacier_restore.proofs.TakenLemmas.{right_with_archive, archive_grows, right_with_upload, upload_grows, right_with_finished, right_with_job, job_grows, right_with_lock}
-use Rattle.glacier_restore.proofs.VaultLemmas.{le_of, lt_of}
+use Rattle.glacier_restore.proofs.VaultLemmas.{le_of, lt_of, none_there}
+
+-- what the tests that an item passed tell of its vault
+module _ (a : AccountState) (number : ℕ) (vault : VaultState) where
+  pub before_jobs : (archive : Archive) → takes_archive a number archive vault ≡ true → map.len vault.jobs ≡ 0
+  before_jobs archive takes = eqb-true _ _ (and_parts _ _ (and_parts _ _ takes).0).1
+
+  pub new_finished : (finished : Finished) → takes_finished a number finished vault ≡ true → map.get vault.finished number ≡ None
+  new_finished finished takes = none_there _ (neither _ _ (not_true _ (and_parts _ _ takes).1)).1
+
+  pub new_job : (job : Job) → takes_job a number job vault ≡ true → map.get vault.jobs number ≡ None
+  new_job job takes = none_there _ (not_true _ (and_parts _ _ takes).1)
 
 module _ (a : AccountState) (lawful : IsLawful a) where
   -- what is put into a vault leaves a lawful account where each vault that takes it does

@@ -46,12 +46,12 @@ module _ (a : AccountState) (vault : VaultState) (lawful : IsLawfulVault a.count
           )
 
       pub right_with_archive : (held : Bool) → IsLawfulVault a.counter a.last (with_archive held number archive vault)
-      right_with_archive false = right_archives a vault lawful (map.insert vault.archives number archive) vault.held archive_parts.0.1
+      right_with_archive false = right_archives a vault lawful (map.insert vault.archives number archive) vault.held vault.due lawful.due archive_parts.0.1
           (λ n. if_some-insert nat_cmp_total map.nat_cmp-IsAntisymmetric (IsDrawn a.counter (IsLawfulArchive a.last)) vault.archives number n archive archive_parts.0.0 (lawful.archives n))
           lawful.held (stays_apart vault.archives vault.held number archive archive_parts.1.1 lawful.live_or_held)
       right_with_archive true =
-          subst (λ bytes. IsLawfulVault a.counter a.last (record vault { bytes = bytes; held = map.insert vault.held number archive })) (sym lawful.bytes)
-          (right_archives a vault lawful vault.archives (map.insert vault.held number archive) archive_parts.0.1 lawful.archives
+          subst (λ bytes. IsLawfulVault a.counter a.last (record (with_archive true number archive vault) { bytes = bytes })) (sym lawful.bytes)
+          (right_archives a vault lawful vault.archives (map.insert vault.held number archive) _ refl archive_parts.0.1 lawful.archives
           (λ n. if_some-insert nat_cmp_total map.nat_cmp-IsAntisymmetric (IsDrawn a.counter (IsLawfulArchive a.last)) vault.held number n archive archive_parts.0.0 (lawful.held n))
           (comes_apart vault.held vault.archives number archive archive_parts.1.0 lawful.live_or_held))
 
@@ -105,6 +105,7 @@ module _ (a : AccountState) (vault : VaultState) (lawful : IsLawfulVault a.count
             open_or_finished = comes_apart vault.finished vault.uploads number finished (none_there _ free.0) lawful.open_or_finished;
             jobs = lawful.jobs;
             lock = lawful.lock;
+            due = refl;
           }
 
     module _ (job : Job) (takes : takes_job a number job vault ≡ true) where
@@ -140,7 +141,7 @@ module _ (a : AccountState) (vault : VaultState) (lawful : IsLawfulVault a.count
       pub right_with_job : IsLawfulVault a.counter a.last (with_job number job vault)
       right_with_job =
           let past = and_parts _ _ job_parts.0.0 in
-          right_jobs a vault lawful (map.insert vault.jobs number job)
+          right_jobs a vault lawful (map.insert vault.jobs number job) _ refl
           (λ n. if_some-insert nat_cmp_total map.nat_cmp-IsAntisymmetric (IsDrawn a.counter (IsLawfulJob a.counter a.last vault.archives vault.held)) vault.jobs number n job
           (record { drawn = lt_of _ _ past.0; right = record { created = le_of _ _ past.1; work = right_work job.work job_parts.0.1 } }) (lawful.jobs n))
 
@@ -161,4 +162,5 @@ module _ (a : AccountState) (vault : VaultState) (lawful : IsLawfulVault a.count
     open_or_finished = lawful.open_or_finished;
     jobs = lawful.jobs;
     lock = right;
+    due = lawful.due;
   }

@@ -10,6 +10,7 @@ use Rattle.glacier_base.proofs.LookUps.{if_some-empty}
 use Rattle.glacier_base.proofs.Sorted.{tied}
 use Rattle.glacier_base.proofs.Sums.{weight, sum_by-insert}
 use Rattle.glacier_treehash.specs.Roots.{root_of_digests}
+use Rattle.glacier_vault.specs.Due.{content_due}
 use Rattle.glacier_vault.specs.Lawful.{IsLawfulBody, IsLawfulArchive, IsLawfulUpload, IsLawfulJob, IsLawfulVault, IsDrawn}
 use Rattle.glacier_vault.specs.Rows.{with_archives}
 use Rattle.glacier_vault.specs.Totals.{Archives, need, bytes_in}
@@ -83,12 +84,13 @@ module _ (a : AccountState) (vault : VaultState) (lawful : IsLawfulVault a.count
     open_or_finished = apart;
     jobs = lawful.jobs;
     lock = lawful.lock;
+    due = lawful.due;
   }
 
-  -- with other jobs
-  pub right_jobs : (jobs : map.FinMap nat_cmp Job) → ((n : ℕ) → IfSome (map.get jobs n) (IsDrawn a.counter (IsLawfulJob a.counter a.last vault.archives vault.held) n))
-      → IsLawfulVault a.counter a.last (record vault { jobs = jobs })
-  right_jobs jobs right = record {
+  -- with other jobs, and the moment that is due then
+  pub right_jobs : (jobs : map.FinMap nat_cmp Job) (due : Option ℕ) → due ≡ content_due (record vault { jobs = jobs }) → ((n : ℕ) → IfSome (map.get jobs n) (IsDrawn a.counter (IsLawfulJob a.counter a.last vault.archives vault.held) n))
+      → IsLawfulVault a.counter a.last (record vault { jobs = jobs; due = due })
+  right_jobs jobs due is right = record {
     created = lawful.created;
     bytes = lawful.bytes;
     archives = lawful.archives;
@@ -99,13 +101,14 @@ module _ (a : AccountState) (vault : VaultState) (lawful : IsLawfulVault a.count
     open_or_finished = lawful.open_or_finished;
     jobs = right;
     lock = lawful.lock;
+    due = is;
   }
 
   -- with other archives, beside no job
-  pub right_archives : (archives held : Archives) → map.len vault.jobs ≡ 0 → ((n : ℕ) → IfSome (map.get archives n) (IsDrawn a.counter (IsLawfulArchive a.last) n))
+  pub right_archives : (archives held : Archives) (due : Option ℕ) → due ≡ content_due (record vault { held = held }) → map.len vault.jobs ≡ 0 → ((n : ℕ) → IfSome (map.get archives n) (IsDrawn a.counter (IsLawfulArchive a.last) n))
       → ((n : ℕ) → IfSome (map.get held n) (IsDrawn a.counter (IsLawfulArchive a.last) n)) → ((n : ℕ) → IsSome (map.get held n) → map.get archives n ≡ None)
-      → IsLawfulVault a.counter a.last (record (with_archives vault archives) { held = held })
-  right_archives archives held none live kept apart = record {
+      → IsLawfulVault a.counter a.last (record (with_archives vault archives) { held = held; due = due })
+  right_archives archives held due is none live kept apart = record {
     created = lawful.created;
     bytes = refl;
     archives = live;
@@ -116,4 +119,5 @@ module _ (a : AccountState) (vault : VaultState) (lawful : IsLawfulVault a.count
     open_or_finished = lawful.open_or_finished;
     jobs = λ n. subst (λ m. IfSome (map.get m n) (IsDrawn a.counter (IsLawfulJob a.counter a.last archives held) n)) (sym (map.empty_of_len vault.jobs none)) (if_some-empty nat_cmp (IsDrawn a.counter (IsLawfulJob a.counter a.last archives held) n) n);
     lock = lawful.lock;
+    due = is;
   }

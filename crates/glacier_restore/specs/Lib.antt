@@ -1,3 +1,4 @@
 pub mod Fitting
+pub mod Moments
 pub mod Putting
 pub mod Restoring

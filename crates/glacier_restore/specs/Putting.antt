@@ -16,11 +16,12 @@ use Rattle.glacier_vault.specs.declared.lock.Lock.{Lock}
 use Rattle.glacier_vault.specs.declared.state.AccountState.{AccountState}
 use Rattle.glacier_vault.specs.declared.state.VaultState.{VaultState}
 use Rattle.glacier_restore.specs.Fitting.{is_unseen, takes_archive, takes_upload, upload_takes, takes_finished, takes_job, job_takes, takes_lock}
+use Rattle.glacier_restore.specs.Moments.{with_due}
 
 -- the vault with one more thing
 abbrev pub with_archive : Bool → ℕ → Archive → VaultState → VaultState
 with_archive false number archive vault = with_archives vault (map.insert vault.archives number archive)
-with_archive true number archive vault = record vault { held = map.insert vault.held number archive }
+with_archive true number archive vault = with_due (record vault { held = map.insert vault.held number archive })
 
 abbrev pub with_upload : ℕ → Upload → VaultState → VaultState
 with_upload number upload vault = record vault { uploads = map.insert vault.uploads number upload }
@@ -32,10 +33,10 @@ abbrev pub in_upload : ℕ → ℕ → Part → VaultState → VaultState
 in_upload number index part vault = record vault { uploads = changed_at (with_part index part) vault.uploads number }
 
 abbrev pub with_finished : ℕ → Finished → VaultState → VaultState
-with_finished number finished vault = record vault { finished = map.insert vault.finished number finished }
+with_finished number finished vault = with_due (record vault { finished = map.insert vault.finished number finished })
 
 abbrev pub with_job : ℕ → Job → VaultState → VaultState
-with_job number job vault = record vault { jobs = map.insert vault.jobs number job }
+with_job number job vault = with_due (record vault { jobs = map.insert vault.jobs number job })
 
 abbrev pub one_line_more : Line → Stage → Stage
 one_line_more line (stages.Done lines) = stages.Done (lines ++ line ∷ [])

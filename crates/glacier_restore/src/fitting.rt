@@ -147,7 +147,7 @@ fn has_size(size: u64, archives: &NumberMap<Archive>, number: u64) -> bool
     }
 }
 
-fn is_done(stage: &Stage) -> bool
+pub(crate) fn is_done(stage: &Stage) -> bool
     ensures { result ≡ is_done stage.now }
 {
     match stage {

@@ -2,8 +2,10 @@
 #![tactic(auto)]
 
 mod fitting;
+mod moments;
 mod naming;
 mod putting;
+mod putting_jobs;
 mod restoring;
 
 pub use restoring::{put_kept, restore};

@@ -1,14 +1,16 @@
-// What an item of a snapshot is put into.
-ghost use Rattle.std.specs.Prelude.{◌≡◌, IfOk, OnOk, is_some, unwrap_or, None};
+// What an item of a snapshot is put into: all but jobs.
+ghost use Rattle.std.specs.Prelude.{◌≡◌, IfOk, OnOk, is_some, unwrap_or, None, Some, if◌then◌else◌};
 ghost use Rattle.std.specs.FinMap as map;
+ghost use Rattle.glacier_vault.specs.Due.{content_due};
 ghost use Rattle.glacier_vault.specs.Lawful.{IsLawful, IsLawfulBody};
 ghost use Rattle.glacier_vault.specs.Totals.{bytes_in};
-ghost use Rattle.glacier_restore.specs.Putting.{put_account, put_vault, put_archive, put_upload, put_part, put_finished, put_job, put_line, put_lock, with_archive};
+ghost use Rattle.glacier_restore.specs.Putting.{put_account, put_vault, put_archive, put_upload, put_part, put_finished, put_lock, with_archive, with_finished};
 
 use crate::fitting;
 use glacier_base::{Memory, Moment, VaultName};
 use glacier_vault::{
-    AccountState, Archive, Finished, Job, Line, Lock, Part, Stage, Upload, VaultState, blocks_of,
+    AccountState, Archive, Finished, Lock, Part, Upload, VaultState, blocks_of, finished_due,
+    lock_due, sooner,
 };
 use std::alloc::Global;
 
@@ -55,10 +57,13 @@ fn insert_archive(
 ) -> Result<(), Memory>
     requires bytes { vault.old.bytes ≡ bytes_in vault.old.archives }
     requires missing { map.get vault.old.archives number ≡ None }
+    requires first { map.len vault.old.jobs ≡ 0 }
     ensures { OnOk result (vault.new ≡ with_archive held number archive vault.old) }
 {
     if held {
-        return vault.held.insert(number, archive);
+        vault.held.insert(number, archive)?;
+        vault.due = Some(0);
+        return Ok(());
     }
     let Some(bytes) = vault.bytes.checked_add(archive.size) else {
         return Err(Memory);
@@ -66,6 +71,13 @@ fn insert_archive(
     vault.archives.insert(number, archive)?;
     vault.bytes = bytes;
     Ok(())
+}
+
+/// The moment that is due behind an archive: one that is held is loose until a job names it.
+fn due_behind(held: bool, due: Option<u64>) -> Option<u64>
+    ensures { result ≡ (if held then Some 0 else due) }
+{
+    if held { Some(0) } else { due }
 }
 
 /// Puts an archive into a vault, live or held. A sum that is no `u64` is want of memory.
@@ -96,6 +108,7 @@ pub(crate) fn put_archive(
     };
     insert_archive(vault, held, number, archive)?;
     state.used = used;
+    state.due = due_behind(held, state.due);
     Ok(true)
 }
 
@@ -165,6 +178,18 @@ pub(crate) fn put_part(
     Ok(true)
 }
 
+/// Puts a finished upload at a number that a vault doesn't have.
+fn insert_finished(vault: &mut VaultState, number: u64, finished: Finished) -> Result<(), Memory>
+    requires due { vault.old.due ≡ content_due vault.old }
+    requires missing { map.get vault.old.finished number ≡ None }
+    ensures { OnOk result (vault.new ≡ with_finished number finished vault.old) }
+{
+    let due = sooner(vault.due, finished_due(&finished));
+    vault.finished.insert(number, finished)?;
+    vault.due = due;
+    Ok(())
+}
+
 /// Puts a finished upload into a vault.
 pub(crate) fn put_finished(
     state: &mut AccountState,
@@ -183,72 +208,12 @@ pub(crate) fn put_finished(
     if !fitting::takes_finished(state, number, &finished, vault) {
         return Ok(false);
     }
+    let due = sooner(state.due, finished_due(&finished));
     let Some(vault) = state.vaults.get_mut(name) else {
         unreachable!();
     };
-    vault.finished.insert(number, finished)?;
-    Ok(true)
-}
-
-/// Puts a job into a vault.
-pub(crate) fn put_job(
-    state: &mut AccountState,
-    name: &VaultName,
-    number: u64,
-    job: Job,
-) -> Result<bool, Memory>
-    requires lawful { IsLawful state.old }
-    ensures fits { IfOk result (λ fits. fits ≡ is_some (put_job state.old name.now number job)) }
-    ensures state { OnOk result
-        (state.new ≡ unwrap_or (put_job state.old name.now number job) state.old) }
-{
-    let Some(vault) = state.vaults.get(name) else {
-        return Ok(false);
-    };
-    if !fitting::takes_job(state, number, &job, vault) {
-        return Ok(false);
-    }
-    let Some(jobs) = state.jobs.checked_add(1) else {
-        return Err(Memory);
-    };
-    let Some(vault) = state.vaults.get_mut(name) else {
-        unreachable!();
-    };
-    vault.jobs.insert(number, job)?;
-    state.jobs = jobs;
-    Ok(true)
-}
-
-/// Puts a line into an inventory that is done.
-pub(crate) fn put_line(
-    state: &mut AccountState,
-    name: &VaultName,
-    job: u64,
-    line: Line,
-) -> Result<bool, Memory>
-    requires lawful { IsLawful state.old }
-    ensures fits { IfOk result (λ fits. fits ≡ is_some (put_line state.old name.now job line)) }
-    ensures state { OnOk result
-        (state.new ≡ unwrap_or (put_line state.old name.now job line) state.old) }
-{
-    let Some(vault) = state.vaults.get(name) else {
-        return Ok(false);
-    };
-    let Some(done) = vault.jobs.get(job) else {
-        return Ok(false);
-    };
-    if !fitting::takes_line(&line, done) {
-        return Ok(false);
-    }
-    let Some(vault) = state.vaults.get_mut(name) else {
-        unreachable!();
-    };
-    let Some(done) = vault.jobs.get_mut(job) else {
-        unreachable!();
-    };
-    if let Stage::Done(lines) = &mut done.stage {
-        lines.push(line)?;
-    }
+    insert_finished(vault, number, finished)?;
+    state.due = due;
     Ok(true)
 }
 
@@ -268,5 +233,7 @@ pub(crate) fn put_lock(state: &mut AccountState, name: &VaultName, lock: Lock) -
         unreachable!();
     };
     vault.lock = Some(lock);
+    let due = lock_due(&vault.lock);
+    state.due = sooner(state.due, due);
     true
 }

@@ -7,7 +7,7 @@ ghost use Rattle.glacier_restore.specs.Restoring.{kept_archive, kept_lock, kept_
 
 use crate::fitting::is_body;
 use crate::naming::names_some;
-use crate::putting;
+use crate::{putting, putting_jobs};
 use glacier_base::{Description, Digest, List, Memory, Moment, PartMap, Text};
 use glacier_policy::{Policy, PolicyFault};
 use glacier_records::{Blob, Kept, StageName};
@@ -201,7 +201,7 @@ fn put_item(alloc: Global, state: &mut AccountState, m: Moment, kept: &Kept) -> 
                 work: *work,
                 stage: stage_of(alloc, *stage),
             };
-            putting::put_job(state, name, *number, job)
+            putting_jobs::put_job(state, name, *number, job)
         }
         Kept::Line {
             name,
@@ -222,7 +222,7 @@ fn put_item(alloc: Global, state: &mut AccountState, m: Moment, kept: &Kept) -> 
                 description: *description,
                 tree: *tree,
             };
-            putting::put_line(state, name, *job, line)
+            putting_jobs::put_line(state, name, *job, line)
         }
         Kept::Lock {
             name,

@@ -1,5 +1,7 @@
-use Rattle.std.proofs.Common.{sym, arith}
+use Rattle.std.proofs.Common.{refl, sym, arith}
 use Rattle.std.proofs.lemmas.Grind.{common_steps}
+use Rattle.glacier_restore.specs.Putting.{in_upload}
+use Rattle.glacier_restore.proofs.MomentLemmas.{due_same}
 use Rattle.glacier_restore.proofs.PutLemmas.{part_grown}
 use Rattle.glacier_restore.proofs.putting.put_part.Goals as goal
 
@@ -9,4 +11,5 @@ returns-clause-state c =
     let used = grown.used in
     let uploads = grown.uploads in
     let jobs = grown.jobs in
+    let due = due_same c.args.state.now c.requires.lawful c.args.name.now c.in-Some.vault.now (sym c.in-Some.ensures) (in_upload c.args.upload c.args.index c.args.part) refl in
     grind (arith, common_steps)

@@ -1,7 +1,9 @@
-use Rattle.std.proofs.Common.{sym, arith}
+use Rattle.std.proofs.Common.{refl, sym, arith}
 use Rattle.std.proofs.lemmas.Grind.{common_steps}
+use Rattle.glacier_restore.specs.Putting.{in_job}
+use Rattle.glacier_restore.proofs.MomentLemmas.{due_same}
 use Rattle.glacier_restore.proofs.PutLemmas.{line_grown}
-use Rattle.glacier_restore.proofs.putting.put_line.Goals as goal
+use Rattle.glacier_restore.proofs.putting_jobs.put_line.Goals as goal
 
 pub returns-in_ok-push-clause-state : goal.returns-in_ok-push-clause-state
 returns-in_ok-push-clause-state c =
@@ -9,4 +11,5 @@ returns-in_ok-push-clause-state c =
     let used = grown.used in
     let uploads = grown.uploads in
     let jobs = grown.jobs in
+    let due = due_same c.args.state.now c.requires.lawful c.args.name.now c.in-Some.vault.now (sym c.in-Some.ensures) (in_job c.args.job c.args.line) refl in
     grind (arith, common_steps)

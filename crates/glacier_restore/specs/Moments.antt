@@ -1,0 +1,22 @@
+-- What is put into a vault does to the moment that is due in it.
+use Rattle.std.specs.Prelude.{ℕ, Bool, false, ◌&&◌}
+use Rattle.std.specs.FinMap as map
+use Rattle.glacier_vault.specs.Due.{content_due}
+use Rattle.glacier_vault.specs.Named.{is_done}
+use Rattle.glacier_vault.specs.declared.job.Job.{Job}
+use Rattle.glacier_vault.specs.declared.job.Work.{Work}
+use Rattle.glacier_vault.specs.declared.job.Work.TheVariants as works
+use Rattle.glacier_vault.specs.declared.state.VaultState.{VaultState}
+
+-- the vault with the moment that is due among what it holds
+abbrev pub with_due : VaultState → VaultState
+with_due vault = record vault { due = content_due vault }
+
+-- whether what is asked for is of a held archive
+abbrev pub asks_held : VaultState → Work → Bool
+asks_held vault (works.Archive archive size tree first end range) = map.contains_key vault.held archive
+asks_held vault (works.Inventory csv) = false
+
+-- whether a job is done and names a held archive
+abbrev pub names_held : VaultState → Job → Bool
+names_held vault job = is_done job.stage && asks_held vault job.work

@@ -1,0 +1,104 @@
+// Jobs of a snapshot and their lines, put into a vault.
+ghost use Rattle.std.specs.Prelude.{◌≡◌, IfOk, OnOk, is_some, unwrap_or, None, if◌then◌else◌};
+ghost use Rattle.std.specs.FinMap as map;
+ghost use Rattle.glacier_vault.specs.Due.{content_due, due_in, sooner};
+ghost use Rattle.glacier_vault.specs.Lawful.{IsLawful};
+ghost use Rattle.glacier_restore.specs.Putting.{put_job, put_line, with_job};
+
+use crate::{fitting, moments};
+use glacier_base::{Memory, VaultName};
+use glacier_vault::{AccountState, Job, Line, Stage, VaultState, due_of_vaults, job_due, sooner};
+
+/// Puts a job at a number that a vault doesn't have. What is due among all that the vault holds is
+/// looked for again only where the job names an archive that is held.
+fn insert_job(vault: &mut VaultState, number: u64, job: Job) -> Result<(), Memory>
+    requires due { vault.old.due ≡ content_due vault.old }
+    requires missing { map.get vault.old.jobs number ≡ None }
+    ensures { OnOk result (vault.new ≡ with_job number job vault.old) }
+{
+    if moments::names_held(vault, &job) {
+        vault.jobs.insert(number, job)?;
+        vault.due = moments::content_due(vault);
+        return Ok(());
+    }
+    let due = sooner(vault.due, job_due(&job));
+    vault.jobs.insert(number, job)?;
+    vault.due = due;
+    Ok(())
+}
+
+/// The moment that is due in an account behind a job that is due at a moment.
+fn due_with_job(state: &AccountState, names_held: bool, due: Option<u64>) -> Option<u64>
+    ensures { result ≡ (if names_held then due_in state.now.vaults else sooner state.now.due due) }
+{
+    if names_held {
+        due_of_vaults(&state.vaults)
+    } else {
+        sooner(state.due, due)
+    }
+}
+
+/// Puts a job into a vault.
+pub(crate) fn put_job(
+    state: &mut AccountState,
+    name: &VaultName,
+    number: u64,
+    job: Job,
+) -> Result<bool, Memory>
+    requires lawful { IsLawful state.old }
+    ensures fits { IfOk result (λ fits. fits ≡ is_some (put_job state.old name.now number job)) }
+    ensures state { OnOk result
+        (state.new ≡ unwrap_or (put_job state.old name.now number job) state.old) }
+{
+    let Some(vault) = state.vaults.get(name) else {
+        return Ok(false);
+    };
+    if !fitting::takes_job(state, number, &job, vault) {
+        return Ok(false);
+    }
+    let Some(jobs) = state.jobs.checked_add(1) else {
+        return Err(Memory);
+    };
+    let names_held = moments::names_held(vault, &job);
+    let due = job_due(&job);
+    let Some(vault) = state.vaults.get_mut(name) else {
+        unreachable!();
+    };
+    insert_job(vault, number, job)?;
+    state.jobs = jobs;
+    state.due = due_with_job(state, names_held, due);
+    Ok(true)
+}
+
+/// Puts a line into an inventory that is done.
+pub(crate) fn put_line(
+    state: &mut AccountState,
+    name: &VaultName,
+    job: u64,
+    line: Line,
+) -> Result<bool, Memory>
+    requires lawful { IsLawful state.old }
+    ensures fits { IfOk result (λ fits. fits ≡ is_some (put_line state.old name.now job line)) }
+    ensures state { OnOk result
+        (state.new ≡ unwrap_or (put_line state.old name.now job line) state.old) }
+{
+    let Some(vault) = state.vaults.get(name) else {
+        return Ok(false);
+    };
+    let Some(done) = vault.jobs.get(job) else {
+        return Ok(false);
+    };
+    if !fitting::takes_line(&line, done) {
+        return Ok(false);
+    }
+    let Some(vault) = state.vaults.get_mut(name) else {
+        unreachable!();
+    };
+    let Some(done) = vault.jobs.get_mut(job) else {
+        unreachable!();
+    };
+    if let Stage::Done(lines) = &mut done.stage {
+        lines.push(line)?;
+    }
+    Ok(true)
+}
