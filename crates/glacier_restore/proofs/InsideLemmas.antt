@@ -1,22 +1,21 @@
 -- A lawful vault of which an open upload takes a part in, or a job a line.
-use Rattle.std.specs.Prelude.{◌≡◌, ℕ, ◌≤◌, ◌+◌, Bool, true, false, cond, not, ◌&&◌, List, Option, Some, None, IfSome, IsSome, nat_le, nat_lt}
+use Rattle.std.specs.Prelude.{◌≡◌, ℕ, ◌+◌, Bool, true, false, cond, Option, Some, None, IfSome}
 use Rattle.std.specs.Cmp.{nat_cmp_total}
 use Rattle.std.specs.FinMap as map
 use Rattle.std.specs.Option.{option_map}
 use Rattle.std.specs.Ordering.{nat_cmp, eq_by_cmp}
-use Rattle.std.proofs.Common.{◌∙◌, ap, sym, refl, subst, arith}
+use Rattle.std.proofs.Common.{◌∙◌, ap, sym, subst, arith}
 use Rattle.std.proofs.lemmas.Bool.{and_parts}
 use Rattle.glacier_base.proofs.Changed.{get-changed_at}
 use Rattle.glacier_base.proofs.LookUps.{if_some-insert, if_some-changed_at}
 use Rattle.glacier_base.proofs.Sums.{weight, sum_by-insert, sum_by-changed_at}
 use Rattle.glacier_vault.specs.Lawful.{IsLawfulBody, IsLawfulPart, IsLawfulUpload, IsLawfulJob, IsLawfulWork, IsLawfulVault, IsDrawn}
-use Rattle.glacier_vault.specs.Totals.{Archives, Weight, vault_total, upload_total}
+use Rattle.glacier_vault.specs.Totals.{Weight, vault_total, upload_total}
 use Rattle.glacier_vault.specs.declared.archive.Part.{Part}
 use Rattle.glacier_vault.specs.declared.archive.Upload.{Upload}
 use Rattle.glacier_vault.specs.declared.job.Job.{Job}
 use Rattle.glacier_vault.specs.declared.job.Line.{Line}
 use Rattle.glacier_vault.specs.declared.job.Stage.{Stage}
-use Rattle.glacier_vault.specs.declared.job.Stage.TheVariants as stages
 use Rattle.glacier_vault.specs.declared.job.Work.{Work}
 use Rattle.glacier_vault.specs.declared.job.Work.TheVariants as works
 use Rattle.glacier_vault.specs.declared.state.AccountState.{AccountState}

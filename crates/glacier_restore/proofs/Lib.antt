@@ -1,9 +1,15 @@
+pub mod AgainLemmas
 pub mod AnyLemmas
+pub mod CountLemmas
+pub mod EachLemmas
 pub mod GrownLemmas
 pub mod InsideLemmas
+pub mod JobsAgain
 pub mod MomentLemmas
 pub mod NamedLemmas
+pub mod PlacedLemmas
 pub mod PutLemmas
 pub mod RestoredLemmas
+pub mod SnapshotLaw
 pub mod TakenLemmas
 pub mod VaultLemmas

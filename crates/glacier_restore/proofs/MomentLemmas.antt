@@ -1,9 +1,9 @@
 -- What is put into a vault does to the moment that is due in it, and in its account.
-use Rattle.std.specs.Prelude.{◌≡◌, ℕ, ◌+◌, Bool, true, false, cond, not, ◌&&◌, ◌||◌, List, Option, Some, None, IfSome, is_some, is_none, nat_eq, nat_le}
+use Rattle.std.specs.Prelude.{◌≡◌, ℕ, ◌+◌, Bool, true, false, cond, not, ◌&&◌, ◌||◌, List, Option, Some, None, is_some, is_none, nat_eq, nat_le}
 use Rattle.std.specs.Cmp.{nat_cmp_total}
 use Rattle.std.specs.FinMap as map
 use Rattle.std.specs.List.{list_any}
-use Rattle.std.specs.Ordering.{nat_cmp, eq_by_cmp}
+use Rattle.std.specs.Ordering.{nat_cmp}
 use Rattle.std.proofs.Common.{◌∙◌, ap, sym, refl, arith}
 use Rattle.std.proofs.lemmas.Bool.{eqb-true, le-leb, leb-true}
 use Rattle.glacier_base.specs.Maps.{changed_at}
@@ -25,7 +25,7 @@ use Rattle.glacier_vault.specs.declared.state.VaultState.{VaultState}
 use Rattle.glacier_vault.proofs.DueLemmas.{due_in-sooner, due_in-same}
 use Rattle.glacier_vault.proofs.SoonerLemmas.{sooner-none, sooner-assoc, sooner-swap}
 use Rattle.glacier_vault.proofs.SoonestLemmas.{soonest-missing, soonest-changed_at, any-keys-insert}
-use Rattle.glacier_restore.specs.Moments.{with_due, asks_held, names_held}
+use Rattle.glacier_restore.specs.Moments.{asks_held, names_held}
 use Rattle.glacier_restore.specs.Putting.{with_archive, with_finished, with_job, one_line_more, with_line, in_job, with_lock}
 use Rattle.glacier_restore.proofs.AnyLemmas.{any-empty, any-insert, any-changed_at, any_same}
 

@@ -1,8 +1,8 @@
 -- What isn't named counts for nothing.
-use Rattle.std.specs.Prelude.{◌≡◌, ℕ, ◌+◌, ◌≤◌, ◌<◌, Bool, true, false, cond, not, ◌&&◌, ◌||◌, List, [], ◌∷◌, nat_eq, nat_lt, sum_by, count_by}
+use Rattle.std.specs.Prelude.{◌≡◌, ℕ, ◌+◌, ◌≤◌, Bool, true, false, cond, not, ◌&&◌, ◌||◌, List, [], ◌∷◌, nat_eq, nat_lt, sum_by, count_by}
 use Rattle.std.specs.FinMap as map
 use Rattle.std.specs.List.{list_any}
-use Rattle.std.proofs.Common.{◌∙◌, ap, sym, refl, subst, arith}
+use Rattle.std.proofs.Common.{ap, refl, subst, arith}
 use Rattle.std.proofs.lemmas.Bool.{and_parts, eqb-true}
 use Rattle.std.proofs.lemmas.Bool.Decides.{nat_tests}
 use Rattle.std.proofs.lemmas.List.Sums.{sum_by-cons}
@@ -68,7 +68,7 @@ module _ (blob : ℕ) where
   abbrev pub times : List ℕ → ℕ
   times ns = count_by (λ n. nat_eq n blob) ns
 
-  times_step : (n : ℕ) (ns : List ℕ) → times (n ∷ ns) ≡ one_if (nat_eq n blob) + times ns
+  pub times_step : (n : ℕ) (ns : List ℕ) → times (n ∷ ns) ≡ one_if (nat_eq n blob) + times ns
   times_step n ns = sum_by-cons {X = ℕ} (λ n. one_if (nat_eq n blob)) n ns
 
   -- of numbers that are apart once at most

@@ -1,14 +1,14 @@
 -- What is put into a lawful account: its totals, and that it is lawful.
-use Rattle.std.specs.Prelude.{◌≡◌, ℕ, ◌≤◌, ◌+◌, ◌⊎◌, Bool, true, false, cond, List, [], ◌∷◌, Option, Some, None, Ok, IsSome, IfSome, nat_eq, nat_le, nat_lt, count_by}
+use Rattle.std.specs.Prelude.{◌≡◌, ℕ, ◌≤◌, ◌+◌, Bool, true, false, List, Option, Some, None, Ok, IfSome, is_none, nat_eq, nat_lt}
 use Rattle.std.specs.FinMap as map
 use Rattle.std.specs.List.{list_any}
-use Rattle.std.proofs.Common.{◌∙◌, ap, sym, refl, subst, inl, inr, arith}
+use Rattle.std.proofs.Common.{ap, refl, subst, inl, inr, arith}
 use Rattle.std.proofs.lemmas.Bool.{and_parts, eqb-true, cases_lt}
 use Rattle.std.proofs.lemmas.Bool.Decides.{nat_tests}
 use Rattle.glacier_policy.specs.Policies.{policy_of}
-use Rattle.glacier_vault.specs.Lawful.{IsLawful, IsLawfulBody, IsLawfulVault}
+use Rattle.glacier_vault.specs.Lawful.{IsLawful, IsLawfulBody}
 use Rattle.glacier_vault.specs.Rows.{in_vault}
-use Rattle.glacier_vault.specs.Totals.{need, naming, times_named}
+use Rattle.glacier_vault.specs.Totals.{need, times_named}
 use Rattle.glacier_vault.specs.declared.archive.Archive.{Archive}
 use Rattle.glacier_vault.specs.declared.archive.Finished.{Finished}
 use Rattle.glacier_vault.specs.declared.archive.Part.{Part}
@@ -18,9 +18,8 @@ use Rattle.glacier_vault.specs.declared.job.Line.{Line}
 use Rattle.glacier_vault.specs.declared.lock.Lock.{Lock}
 use Rattle.glacier_vault.specs.declared.state.AccountState.{AccountState}
 use Rattle.glacier_vault.specs.declared.state.VaultState.{VaultState}
-use Rattle.glacier_vault.proofs.KeepsLawful.{lawful-later}
-use Rattle.glacier_restore.specs.Fitting.{are_apart, takes_archive, takes_upload, takes_part, upload_takes, takes_finished, takes_job, takes_line, job_takes, takes_lock}
-use Rattle.glacier_restore.specs.Putting.{where_fits, put_in, put_account, put_vault, put_archive, put_upload, put_part, put_finished, put_job, put_line, put_lock, with_archive, with_upload, in_upload, with_finished, with_job, in_job, with_lock}
+use Rattle.glacier_restore.specs.Fitting.{are_apart, is_past, takes_archive, takes_upload, takes_part, takes_finished, takes_job, takes_line, takes_lock}
+use Rattle.glacier_restore.specs.Putting.{where_fits, put_in, put_archive, put_upload, put_part, put_finished, put_job, put_line, put_lock, with_archive, with_upload, in_upload, with_finished, with_job, in_job, with_lock}
 use Rattle.glacier_restore.specs.Restoring.{is_named, numbers_of}
 use Rattle.glacier_records.specs.declared.kept.Blob.{Blob}
 use Rattle.glacier_restore.proofs.GrownLemmas.{NamesNew, GrowsBy, names_none, right_vault, grown, lawful-grown}
@@ -39,6 +38,9 @@ module _ (a : AccountState) (number : ℕ) (vault : VaultState) where
 
   pub new_job : (job : Job) → takes_job a number job vault ≡ true → map.get vault.jobs number ≡ None
   new_job job takes = none_there _ (not_true _ (and_parts _ _ takes).1)
+
+pub no_lock : (a : AccountState) (vault : VaultState) (lock : Lock) → takes_lock a lock vault ≡ true → is_none vault.lock ≡ true
+no_lock a vault lock takes = (and_parts (is_past a lock.created lock.number) (is_none vault.lock) takes).1
 
 module _ (a : AccountState) (lawful : IsLawful a) where
   -- what is put into a vault leaves a lawful account where each vault that takes it does

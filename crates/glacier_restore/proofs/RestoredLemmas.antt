@@ -6,19 +6,16 @@ use Rattle.std.proofs.lemmas.List.{drop_more}
 use Rattle.std.proofs.lemmas.Bool.{and_parts, eqb-true}
 use Rattle.glacier_base.specs.declared.outside.Memory.{Memory}
 use Rattle.glacier_policy.specs.Policies.{policy_of}
-use Rattle.glacier_policy.specs.declared.policy.Policy.{Policy}
-use Rattle.glacier_policy.specs.declared.policy.PolicyFault.{PolicyFault}
 use Rattle.glacier_treehash.specs.Roots.{root_of_digests}
 use Rattle.glacier_vault.specs.Account.{new_vault}
 use Rattle.glacier_vault.specs.Lawful.{IsLawful}
-use Rattle.glacier_vault.specs.Rows.{with_vaults}
 use Rattle.glacier_vault.specs.Totals.{naming}
 use Rattle.glacier_vault.specs.declared.lock.Lock.{Lock}
 use Rattle.glacier_vault.specs.declared.state.AccountState.{AccountState}
 use Rattle.glacier_vault.proofs.KeepsLawful.{lawful-later, lawful-insert, new_lawful}
 use Rattle.glacier_vault.proofs.Later.{later_vault}
 use Rattle.glacier_vault.proofs.TotalsLemmas.{vault_total-new_vault}
-use Rattle.glacier_restore.specs.Fitting.{is_unseen, is_body}
+use Rattle.glacier_restore.specs.Fitting.{is_body}
 use Rattle.glacier_restore.specs.Putting.{where_fits, put_account, put_vault, put_lock}
 use Rattle.glacier_restore.specs.Restoring.{kept_lock, names_some, numbers_of, put}
 use Rattle.glacier_records.specs.declared.kept.Blob.{Blob}

@@ -1,28 +1,26 @@
 -- A lawful vault that takes something in.
-use Rattle.std.specs.Prelude.{◌≡◌, ℕ, ◌<◌, ◌≤◌, ◌+◌, Bool, true, false, cond, not, ◌&&◌, ◌||◌, List, length, Option, Some, None, IfSome, IsSome, IsTrue, is_some, is_none, nat_eq, nat_lt, nat_le, sum_by}
+use Rattle.std.specs.Prelude.{◌≡◌, ℕ, ◌≤◌, ◌+◌, Bool, true, false, not, ◌||◌, Option, Some, None, IfSome, IsSome, IsTrue, is_some, sum_by}
 use Rattle.std.specs.Cmp.{nat_cmp_total}
 use Rattle.std.specs.FinMap as map
-use Rattle.std.specs.Ordering.{nat_cmp, eq_by_cmp}
-use Rattle.std.proofs.Common.{◌∙◌, ap, sym, refl, subst, arith}
+use Rattle.std.specs.Ordering.{nat_cmp}
+use Rattle.std.proofs.Common.{ap, sym, refl, subst, arith}
 use Rattle.std.proofs.lemmas.Bool.{and_parts, eqb-true}
 use Rattle.glacier_base.proofs.LookUps.{if_some-empty, if_some-insert}
 use Rattle.glacier_base.proofs.Sums.{weight, sum_by-insert}
 use Rattle.glacier_vault.specs.Lawful.{IsLawfulBody, IsLawfulArchive, IsLawfulPart, IsLawfulUpload, IsLawfulJob, IsLawfulWork, IsLawfulLock, IsLawfulVault, IsDrawn}
 use Rattle.glacier_vault.specs.Named.{is_done}
-use Rattle.glacier_vault.specs.PartSizes.{is_part_size}
 use Rattle.glacier_vault.specs.Totals.{Weight, vault_total, upload_total}
 use Rattle.glacier_vault.specs.declared.archive.Archive.{Archive}
 use Rattle.glacier_vault.specs.declared.archive.Finished.{Finished}
 use Rattle.glacier_vault.specs.declared.archive.Upload.{Upload}
 use Rattle.glacier_vault.specs.declared.job.Job.{Job}
-use Rattle.glacier_vault.specs.declared.job.Stage.{Stage}
 use Rattle.glacier_vault.specs.declared.job.Work.{Work}
 use Rattle.glacier_vault.specs.declared.job.Work.TheVariants as works
 use Rattle.glacier_vault.specs.declared.lock.Lock.{Lock}
 use Rattle.glacier_vault.specs.declared.state.AccountState.{AccountState}
 use Rattle.glacier_vault.specs.declared.state.VaultState.{VaultState}
 use Rattle.glacier_vault.proofs.TotalsLemmas.{sum_by-empty}
-use Rattle.glacier_restore.specs.Fitting.{is_body, is_past, is_work, has_archive, has_size, has_upload, takes_archive, takes_upload, takes_finished, takes_job, takes_lock}
+use Rattle.glacier_restore.specs.Fitting.{is_past, is_work, has_size, takes_archive, takes_upload, takes_finished, takes_job}
 use Rattle.glacier_restore.specs.Putting.{with_archive, with_upload, with_finished, with_job, with_lock}
 use Rattle.glacier_restore.proofs.NamedLemmas.{neither, not_true}
 use Rattle.glacier_restore.proofs.VaultLemmas.{le_of, lt_of, none_there, stays_apart, comes_apart, right_uploads, right_jobs, right_archives}

@@ -1,5 +1,5 @@
 -- What is put into a vault does to the moment that is due in it.
-use Rattle.std.specs.Prelude.{ℕ, Bool, false, ◌&&◌}
+use Rattle.std.specs.Prelude.{Bool, false, ◌&&◌}
 use Rattle.std.specs.FinMap as map
 use Rattle.glacier_vault.specs.Due.{content_due}
 use Rattle.glacier_vault.specs.Named.{is_done}

@@ -2,6 +2,7 @@
 #![tactic(auto)]
 
 mod fitting;
+pub mod laws;
 mod moments;
 mod naming;
 mod putting;
