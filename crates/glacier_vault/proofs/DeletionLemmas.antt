@@ -7,7 +7,7 @@ use Rattle.glacier_vault.specs.Deletions.{has_content, is_locked, deletion_refus
 use Rattle.glacier_vault.specs.Lawful.{IsLawful}
 use Rattle.glacier_vault.specs.Named.{blobs_of}
 use Rattle.glacier_vault.specs.Rows.{Row, state_after, no_change, changed_freeing, with_vaults}
-use Rattle.glacier_vault.specs.Totals.{Weight, vault_total, total, upload_total, blocks, each_upload, each_job, used_in, uploads_in, jobs_in}
+use Rattle.glacier_vault.specs.Totals.{Weight, vault_total, total, upload_total, lock_total, blocks, each_upload, each_job, used_in, uploads_in, jobs_in}
 use Rattle.glacier_vault.specs.declared.event.Change.{Change}
 use Rattle.glacier_vault.specs.declared.event.Event.TheVariants.{DeleteVault}
 use Rattle.glacier_vault.specs.declared.refusal.Refusal.{Refusal}
@@ -15,7 +15,7 @@ use Rattle.glacier_vault.specs.declared.refusal.Refusal.TheVariants.{VaultNotEmp
 use Rattle.glacier_vault.specs.declared.state.AccountState.{AccountState}
 use Rattle.glacier_vault.specs.declared.state.VaultState.{VaultState}
 use Rattle.glacier_vault.proofs.KeepsLawful.{lawful-remove}
-use Rattle.glacier_vault.proofs.TotalsLemmas.{sum_by-empty, sum_by-none, sum_by-count, total-remove}
+use Rattle.glacier_vault.proofs.TotalsLemmas.{CountsBodies, blocks_of_bodies, sum_by-empty, sum_by-none, sum_by-zero, sum_by-count, lock_total-zero, total-remove}
 
 -- a vault that may be deleted has no content
 pub bare_where : (vault : VaultState) → deletion_refusal vault ≡ None → has_content vault ≡ false
@@ -34,8 +34,8 @@ bare_there account name vault there may = bare_where vault (none_where (deletion
     none_where (Some refusal) h = cc
 
 module _ (vault : VaultState) (w : Weight) where
-  -- a vault without content has but its held archives and its jobs
-  pub bare_total : has_content vault ≡ false → vault_total w vault ≡ sum_by w.archive (map.values vault.held) + sum_by (λ job. w.job) (map.values vault.jobs)
+  -- a vault without content has but its held archives, its finished uploads, its jobs and its lock
+  pub bare_total : has_content vault ≡ false → vault_total w vault ≡ sum_by w.archive (map.values vault.held) + sum_by w.finished (map.values vault.finished) + sum_by w.job (map.values vault.jobs) + lock_total w vault.lock + w.vault
   bare_total e =
       let archives : map.len vault.archives ≡ 0 = grind (arith, e) in
       let uploads : map.len vault.uploads ≡ 0 = grind (arith, e) in
@@ -43,11 +43,10 @@ module _ (vault : VaultState) (w : Weight) where
       let neither = ap (λ m. sum_by (upload_total w) (map.values m)) (map.empty_of_len vault.uploads uploads) ∙ sum_by-empty nat_cmp (upload_total w) in
       omega (arith, none, neither)
 
-  -- and where jobs count for nothing, its held archives alone
-  pub held_total : has_content vault ≡ false → w.job ≡ 0 → vault_total w vault ≡ sum_by w.archive (map.values vault.held)
-  held_total e free =
-      let no_jobs : sum_by (λ job. w.job) (map.values vault.jobs) ≡ 0 = ap (λ n. sum_by (λ job. n) (map.values vault.jobs)) free ∙ sum_by-none (map.values vault.jobs) in
-      omega (arith, bare_total e, no_jobs)
+  -- and where bodies alone are counted, its held archives alone
+  pub held_total : has_content vault ≡ false → CountsBodies w → vault_total w vault ≡ sum_by w.archive (map.values vault.held)
+  held_total e bodies =
+      omega (arith, bare_total e, bodies.vault, sum_by-zero w.finished bodies.finished (map.values vault.finished), sum_by-zero w.job bodies.job (map.values vault.jobs), lock_total-zero w bodies.lock vault.lock)
 
 module _ (a : AccountState) (lawful : IsLawful a) (name : List ℕ) (vault : VaultState) (there : map.get a.vaults name ≡ Some vault) where
   -- what a vault has is part of what the account has
@@ -62,13 +61,13 @@ module _ (a : AccountState) (lawful : IsLawful a) (name : List ℕ) (vault : Vau
 
   module _ (bare : has_content vault ≡ false) where
     pub used-delete : a.used - sum_by blocks.archive (map.values vault.held) ≡ used_in (map.remove a.vaults name)
-    used-delete = omega (arith, lawful.used, total-remove blocks a.vaults name vault there, held_total vault blocks bare refl)
+    used-delete = omega (arith, lawful.used, total-remove blocks a.vaults name vault there, held_total vault blocks bare blocks_of_bodies)
 
     pub uploads-delete : a.uploads ≡ uploads_in (map.remove a.vaults name)
-    uploads-delete = omega (arith, lawful.uploads, total-remove each_upload a.vaults name vault there, held_total vault each_upload bare refl, sum_by-none (map.values vault.held))
+    uploads-delete = omega (arith, lawful.uploads, total-remove each_upload a.vaults name vault there, held_total vault each_upload bare (record { vault = refl; finished = λ _. refl; job = λ _. refl; lock = λ _. refl }), sum_by-none (map.values vault.held))
 
     pub jobs-delete : a.jobs - map.len vault.jobs ≡ jobs_in (map.remove a.vaults name)
-    jobs-delete = omega (arith, lawful.jobs, total-remove each_job a.vaults name vault there, bare_total vault each_job bare, sum_by-none (map.values vault.held), sum_by-count vault.jobs)
+    jobs-delete = omega (arith, lawful.jobs, total-remove each_job a.vaults name vault there, bare_total vault each_job bare, sum_by-none (map.values vault.held), sum_by-none (map.values vault.finished), lock_total-zero each_job (λ _. refl) vault.lock, sum_by-count vault.jobs)
 
 module _ (a : AccountState) (m : ℕ) (name : List ℕ) where
   -- the row, by why the vault isn't deleted, and by the vault

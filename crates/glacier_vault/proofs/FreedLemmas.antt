@@ -17,7 +17,7 @@ use Rattle.glacier_vault.specs.declared.refusal.Refusal.{Refusal}
 use Rattle.glacier_vault.specs.declared.state.AccountState.{AccountState}
 use Rattle.glacier_vault.specs.declared.state.VaultState.{VaultState}
 use Rattle.glacier_vault.proofs.DeletionLemmas.{bare_where, held_total, by_refusal, by_vault}
-use Rattle.glacier_vault.proofs.TotalsLemmas.{total-remove, total-changed_at}
+use Rattle.glacier_vault.proofs.TotalsLemmas.{naming_of_bodies, total-remove, total-changed_at}
 use Rattle.glacier_vault.proofs.WithoutArchive.{of_live, balance}
 
 -- how often a number stands in two lists together
@@ -41,7 +41,7 @@ same-frees a blob = omega arith
 module _ (a : AccountState) (m : ℕ) (name : List ℕ) (lawful : IsLawful a) where
   frees-removed : (vault : VaultState) → map.get a.vaults name ≡ Some vault → has_content vault ≡ false
       → FreesJust a (with_vaults a m (map.remove a.vaults name)) (blobs_of (map.values vault.held))
-  frees-removed vault there bare blob = omega (arith, times_in-blobs_of blob (map.values vault.held), held_total vault (naming blob) bare refl, total-remove (naming blob) a.vaults name vault there)
+  frees-removed vault there bare blob = omega (arith, times_in-blobs_of blob (map.values vault.held), held_total vault (naming blob) bare (naming_of_bodies blob), total-remove (naming blob) a.vaults name vault there)
 
   frees-by_refusal : (vault : VaultState) → map.get a.vaults name ≡ Some vault → (r : Option Refusal) → deletion_refusal vault ≡ r → RowFreesJust a (by_refusal a m name vault r)
   frees-by_refusal vault there (Some refusal) e = same-frees a

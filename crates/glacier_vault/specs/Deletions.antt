@@ -1,6 +1,7 @@
 -- The rows of deletions: of a vault, and of an archive.
 use Rattle.std.specs.Prelude.{ℕ, Bool, false, ◌||◌, List, [], is_none, Option, Some, None, Ok, Err, if◌then◌else◌, nat_le}
 use Rattle.std.specs.FinMap as map
+use Rattle.glacier_vault.specs.Lengths.{archive_length}
 use Rattle.glacier_vault.specs.Named.{is_named, blobs_of}
 use Rattle.glacier_vault.specs.Rows.{Row, no_change, changed_freeing, with_vaults, with_archives}
 use Rattle.glacier_vault.specs.Totals.{need}
@@ -66,6 +67,12 @@ abbrev pub room_freed : ℕ → VaultState → ℕ
 room_freed number vault =
     if is_named vault.jobs number then 0
     else (elim (map.get vault.archives number) [ None ↦ 0 | Some archive ↦ need archive.size ])
+
+-- how many bytes less its snapshot takes, where the vault's name has n bytes
+abbrev pub length_freed : ℕ → ℕ → VaultState → ℕ
+length_freed n number vault =
+    if is_named vault.jobs number then 0
+    else (elim (map.get vault.archives number) [ None ↦ 0 | Some archive ↦ archive_length n archive ])
 
 -- the live archive of a number in the vault of a name
 abbrev pub live_archive : AccountState → List ℕ → ℕ → Option Archive

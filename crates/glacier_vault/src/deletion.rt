@@ -1,7 +1,7 @@
 // Deletions of vaults and of archives.
-ghost use Rattle.std.specs.Prelude.{◌≡◌, ◌≤◌, ◌-◌, IfOk, OnOk, OnErr, IsSome, IsTrue, sum_by};
+ghost use Rattle.std.specs.Prelude.{◌≡◌, ◌≤◌, ◌+◌, ◌-◌, IfOk, OnOk, OnErr, IsSome, IsTrue, sum_by};
 ghost use Rattle.std.specs.FinMap as map;
-ghost use Rattle.glacier_vault.specs.Deletions.{has_content, is_locked, deletion_refusal, delete_row, may_go, held_blobs, without_archive, freed_by_deletion, room_freed, live_archive, deletion};
+ghost use Rattle.glacier_vault.specs.Deletions.{has_content, is_locked, deletion_refusal, delete_row, may_go, held_blobs, without_archive, freed_by_deletion, room_freed, length_freed, live_archive, deletion};
 ghost use Rattle.glacier_vault.specs.Lawful.{IsLawful};
 ghost use Rattle.glacier_vault.specs.Named.{is_done, names, is_named, is_of, blobs_of};
 ghost use Rattle.glacier_vault.specs.Rows.{answer, state_after, in_vault, with_vaults};
@@ -11,6 +11,7 @@ use crate::archive::Archive;
 use crate::due::due_of_vaults;
 use crate::event::{Change, Event};
 use crate::job::{Job, Stage, Work};
+use crate::lengths::{length_without_archive, length_without_vault, name_length};
 use crate::lock::Lock;
 use crate::refusal::Refusal;
 use crate::room::blocks_of;
@@ -126,10 +127,12 @@ pub fn remove_vault(
     let freed = all_blobs(alloc, &vault.held)?;
     let used = without_blocks(state.used, &vault.held);
     let jobs = state.jobs - vault.jobs.len() as u64;
+    let length = length_without_vault(state.length, name_length(name), vault);
     let _ = state.vaults.remove(name);
     state.due = due_of_vaults(&state.vaults);
     state.used = used;
     state.jobs = jobs;
+    state.length = length;
     state.last = m;
     Ok(freed)
 }
@@ -167,21 +170,32 @@ pub fn delete(
     }))
 }
 
-/// What the deletion of an archive gives back: blobs, and how many blocks they take.
+/// What the deletion of an archive gives back: blobs, and how many blocks they take; and how long
+/// the account's snapshot is then.
 #[derive(Drop)]
 struct Freed {
     blobs: List<u64>,
     room: u64,
+    length: u64,
 }
 
-/// Takes a live archive out of a vault, or makes it held.
-fn take_out(alloc: Global, vault: &mut VaultState, number: u64) -> Result<Freed, Memory>
+/// Takes a live archive out of a vault, or makes it held. The account's snapshot has the length, and
+/// the vault's name `n` bytes.
+fn take_out(
+    alloc: Global,
+    vault: &mut VaultState,
+    number: u64,
+    length: u64,
+    n: u64,
+) -> Result<Freed, Memory>
     requires live { IsSome (map.get vault.old.archives number) }
     requires bytes { vault.old.bytes ≡ bytes_in vault.old.archives }
+    requires within { length_freed n number vault.old ≤ length }
 
     ensures vault { OnOk result (vault.new ≡ without_archive number vault.old) }
     ensures blobs { IfOk result (λ freed. freed.blobs ≡ freed_by_deletion number vault.old) }
     ensures room { IfOk result (λ freed. freed.room ≡ room_freed number vault.old) }
+    ensures length { IfOk result (λ freed. freed.length + length_freed n number vault.old ≡ length) }
 {
     let named = some_job_names(number, &vault.jobs);
     let Some(archive) = vault.archives.remove(number) else {
@@ -193,12 +207,15 @@ fn take_out(alloc: Global, vault: &mut VaultState, number: u64) -> Result<Freed,
         return Ok(Freed {
             blobs: List::new(alloc),
             room: 0,
+            length,
         });
     }
     let room = blocks_of(archive.size);
+    let length = length_without_archive(length, n, &archive);
     Ok(Freed {
         blobs: archive.blobs,
         room,
+        length,
     })
 }
 
@@ -220,11 +237,13 @@ pub fn delete_archive(
         (state.new ≡ in_vault state.old m name.now (without_archive archive)) }
     ensures lawful { OnOk result (IsLawful state.new) }
 {
+    let length = state.length;
     let Some(vault) = state.vaults.get_mut(name) else {
         unreachable!();
     };
-    let freed = take_out(alloc, vault, archive)?;
+    let freed = take_out(alloc, vault, archive, length, name_length(name))?;
     state.used -= freed.room;
+    state.length = freed.length;
     state.last = m;
     Ok(Change {
         event: Some(Event::DeleteArchive {
