@@ -194,8 +194,8 @@ fn take_out(
 
     ensures vault { OnOk result (vault.new ≡ without_archive number vault.old) }
     ensures blobs { IfOk result (λ freed. freed.blobs ≡ freed_by_deletion number vault.old) }
-    ensures room { IfOk result (λ freed. freed.room ≡ room_freed number vault.old) }
-    ensures length { IfOk result (λ freed. freed.length + length_freed n number vault.old ≡ length) }
+    ensures sizes { IfOk result (λ freed. (freed.room ≡ room_freed number vault.old)
+        × (freed.length + length_freed n number vault.old ≡ length)) }
 {
     let named = some_job_names(number, &vault.jobs);
     let Some(archive) = vault.archives.remove(number) else {
