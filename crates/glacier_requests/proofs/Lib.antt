@@ -4,5 +4,6 @@ pub mod MemberLemmas
 pub mod PathLemmas
 pub mod PlaceLemmas
 pub mod RangeFound
+pub mod RisingRanges
 pub mod RouteLemmas
 pub mod RowLemmas

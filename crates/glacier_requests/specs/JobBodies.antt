@@ -1,5 +1,5 @@
 -- What the body of a new job says (docs/rules/routes-and-refusals.md).
-use Rattle.std.specs.Prelude.{ℕ, Bool, true, false, List, [], ◌∷◌, Option, Some, None, option_map, option_and_then, is_some, Result, Ok, Err, codes, bytes_eq, if◌then◌else◌, ⊤}
+use Rattle.std.specs.Prelude.{ℕ, ◌≤◌, IfSome, Bool, true, false, List, [], ◌∷◌, Option, Some, None, option_map, option_and_then, is_some, Result, Ok, Err, codes, bytes_eq, if◌then◌else◌, ⊤}
 use Rattle.serde_json.specs.Data.{Data}
 use Rattle.serde_json.specs.Find.{as_str}
 use Rattle.glacier_base.specs.Names.{is_description, where_rule}
@@ -101,3 +101,8 @@ job_in body =
 -- what a body says as that of a job
 abbrev pub job_body_of : List ℕ → Result JobBody Refusal
 job_body_of body = and_then (or_else NotJson (object_of body)) job_in
+
+-- a range that is asked for begins where it ends or before
+abbrev pub HasRisingRange : JobKind → Type 0
+HasRisingRange (Archive archive range) = IfSome range (λ range. range.0 ≤ range.1)
+HasRisingRange (Inventory csv) = ⊤
