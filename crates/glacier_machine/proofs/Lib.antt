@@ -1,8 +1,13 @@
+pub mod AsciiLemmas
+pub mod AskLemmas
 pub mod EventLemmas
 pub mod Fitting
 pub mod HeaderLemmas
+pub mod JobLemmas
+pub mod OutputLemmas
 pub mod PathLemmas
 pub mod RefusalLemmas
 pub mod RequestLemmas
 pub mod RouteLemmas
+pub mod RowLaws
 pub mod RowSteps

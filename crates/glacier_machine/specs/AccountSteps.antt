@@ -23,11 +23,17 @@ pub record Step : Type 0 where
 
 -- nothing changes
 abbrev pub only_replies : AccountState → Reply → Step
-only_replies before reply = record { answer = record { reply = reply; change = no_change }; state = before }
+only_replies before reply = record {
+  answer = record { reply = reply; stretch = None; change = no_change };
+  state = before;
+}
 
 -- a row of an operation that may change the account, with the reply where it is accepted
 abbrev pub by_row : AccountState → Row Change → Reply → Step
-by_row before (Ok done) reply = record { answer = record { reply = reply; change = done.1 }; state = done.0 }
+by_row before (Ok done) reply = record {
+  answer = record { reply = reply; stretch = None; change = done.1 };
+  state = done.0;
+}
 by_row before (Err refusal) reply = only_replies before (refused refusal)
 
 -- a question, with the reply to what it finds

@@ -1,9 +1,25 @@
 // Laws of the definitions, which no code calls.
-ghost use Rattle.std.specs.Prelude.{◌≡◌, ◌↔◌, ◌≤◌, ℕ, List, All, IsTrue, IfSome};
+ghost use Rattle.std.specs.Prelude.{◌≡◌, ◌↔◌, ◌≤◌, ℕ, List, Option, All, IsTrue, IfSome, Ok, Err};
 ghost use Rattle.glacier_base.specs.Names.{is_vault_name};
 ghost use Rattle.glacier_http.specs.View.{HeadText};
 ghost use Rattle.glacier_http.specs.Messages.{Message};
-ghost use Rattle.glacier_machine.specs.AccountSteps.{step_of, fits};
+ghost use Rattle.glacier_job.specs.Beginning.{begin_row};
+ghost use Rattle.glacier_job.specs.declared.asks.JobAsk.{JobAsk};
+ghost use Rattle.glacier_lock.specs.Denied.{delete_archive_row};
+ghost use Rattle.glacier_replies.specs.Replies.{refused};
+ghost use Rattle.glacier_upload.specs.Single.{upload_row};
+ghost use Rattle.glacier_upload.specs.declared.asks.Found.{Found};
+ghost use Rattle.glacier_upload.specs.declared.asks.UploadAsk.{UploadAsk};
+ghost use Rattle.glacier_vault.specs.Lawful.{IsLawful};
+ghost use Rattle.glacier_vault.specs.Rows.{answer};
+ghost use Rattle.glacier_machine.specs.AccountSteps.{step_of, fits, only_replies};
+ghost use Rattle.glacier_job.specs.Work.{HasOrderedRange};
+ghost use Rattle.glacier_requests.specs.JobBodies.{job_body_of};
+ghost use Rattle.glacier_requests.specs.declared.jobs.JobBody.{JobBody};
+ghost use Rattle.glacier_machine.specs.Asks.{job_asked};
+ghost use Rattle.glacier_machine.specs.ArchiveSteps.{upload_step, delete_archive_step};
+ghost use Rattle.glacier_machine.specs.JobSteps.{begin_job_step, job_output_step};
+ghost use Rattle.glacier_machine.specs.Outputs.{IsOutputOf};
 ghost use Rattle.glacier_machine.specs.Outcomes.{Accounts, one};
 ghost use Rattle.glacier_machine.specs.Paths.{AsksFor};
 ghost use Rattle.glacier_machine.specs.Routes.{route_of};
@@ -12,6 +28,7 @@ ghost use Rattle.glacier_machine.specs.declared.action.Action.{Action as Request
 ghost use Rattle.glacier_machine.specs.declared.config.Config.{Config as ServiceConfig};
 ghost use Rattle.glacier_machine.specs.declared.routes.Route.{Route as HeadRoute};
 ghost use Rattle.glacier_machine.specs.declared.routes.RouteStep.TheVariants as found;
+ghost use Rattle.glacier_vault.specs.declared.refusal.Refusal.{Refusal};
 ghost use Rattle.glacier_vault.specs.declared.rules.Rules.{Rules as AccountRules};
 ghost use Rattle.glacier_vault.specs.declared.state.AccountState.{AccountState as Account};
 
@@ -39,4 +56,55 @@ pub fn route_is_what_is_asked_for()
         × (¬ IsTrue (is_vault_name name))) }
     ensures no_route { (head : HeadText) → (route_of head ≡ found.NoRoute)
         ↔ ((route : HeadRoute) (name : List ℕ) → ¬ (AsksFor head route name)) }
+{}
+
+/// A step that refuses changes nothing.
+pub fn refused_steps_change_nothing()
+    ensures upload { (rules : AccountRules) (m : ℕ) (ask : UploadAsk) (found : Found) (before : Account)
+        (refusal : Refusal) → answer (upload_row before m ask found) ≡ Err refusal
+        → upload_step rules m ask found before ≡ only_replies before (refused refusal) }
+    ensures deletion { (rules : AccountRules) (m : ℕ) (name : List ℕ) (archive : ℕ) (before : Account)
+        (refusal : Refusal) → answer (delete_archive_row rules before m name archive) ≡ Err refusal
+        → delete_archive_step rules m name archive before ≡ only_replies before (refused refusal) }
+    ensures job { (rules : AccountRules) (m : ℕ) (ask : JobAsk) (before : Account) (refusal : Refusal)
+        → answer (begin_row rules before m ask) ≡ Err refusal
+        → begin_job_step rules m ask before ≡ only_replies before (refused refusal) }
+{}
+
+/// A step with an event does what its row does, whose event fits the account.
+pub fn events_are_of_rows()
+    ensures upload { (rules : AccountRules) (m : ℕ) (ask : UploadAsk) (found : Found) (before : Account)
+        → IfSome (upload_step rules m ask found before).answer.change.event
+        (λ event. upload_row before m ask found ≡ Ok (
+          (upload_step rules m ask found before).state,
+          (upload_step rules m ask found before).answer.change,
+        )) }
+    ensures deletion { (rules : AccountRules) (m : ℕ) (name : List ℕ) (archive : ℕ) (before : Account)
+        → IfSome (delete_archive_step rules m name archive before).answer.change.event
+        (λ event. delete_archive_row rules before m name archive
+        ≡ Ok (
+          (delete_archive_step rules m name archive before).state,
+          (delete_archive_step rules m name archive before).answer.change,
+        )) }
+    ensures job { (rules : AccountRules) (m : ℕ) (ask : JobAsk) (before : Account)
+        → IfSome (begin_job_step rules m ask before).answer.change.event
+        (λ event. begin_row rules before m ask ≡ Ok (
+          (begin_job_step rules m ask before).state,
+          (begin_job_step rules m ask before).answer.change,
+        )) }
+{}
+
+/// The bytes that answer for the output of a job are a stretch of the archive that the job names,
+/// which is live or held, from within the job's range.
+pub fn output_is_of_its_archive()
+    ensures { (account : Account) (name : List ℕ) (job : ℕ) (range : Option (ℕ × ℕ)) (inventory : List ℕ)
+        → IsLawful account → IfSome range (λ range. range.0 ≤ range.1)
+        → IfSome (job_output_step name job range inventory account).answer.stretch
+        (IsOutputOf account name job) }
+{}
+
+/// A job that a body asks for has a range that begins where it ends or before, if it has one.
+pub fn asked_ranges_are_in_order()
+    ensures { (text : List ℕ) (body : JobBody) (vault : List ℕ) → job_body_of text ≡ Ok body
+        → HasOrderedRange (job_asked vault body).kind }
 {}

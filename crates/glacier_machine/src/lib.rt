@@ -2,9 +2,15 @@
 #![tactic(auto)]
 
 mod action;
+mod answers;
+mod archive_steps;
+mod asks;
 mod config;
 mod content_hash;
+mod job_steps;
 pub mod laws;
+mod moments;
+mod outputs;
 mod path;
 mod replaying;
 mod requests;
@@ -13,10 +19,15 @@ mod routing;
 mod signed_requests;
 mod steps;
 
-pub use action::{Action, Answer, Request};
+pub use action::{Action, Answer, Request, Stretch};
+pub use archive_steps::{delete_archive, upload};
+pub use asks::{is_bulk, job_ask, upload_ask};
 pub use config::Config;
 pub use content_hash::MOST_BODY;
 pub use glacier_replies::{bad_head_refusal, refusal_reply};
+pub use job_steps::{begin_job, describe_job};
+pub use moments::pass;
+pub use outputs::job_output;
 pub use replaying::{Replayed, replay};
 pub use requests::request_of;
 pub use routes::{Op, Route, RouteStep};
