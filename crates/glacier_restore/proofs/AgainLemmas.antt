@@ -1,32 +1,36 @@
 -- The items of what a vault holds make it again: its archives, held archives, open and finished uploads.
-use Rattle.std.specs.Prelude.{◌≡◌, ℕ, ◌<◌, ◌≤◌, Bool, true, false, not, ◌||◌, List, [], length, Option, Some, None, IfSome, IsSome, is_some}
+use Rattle.std.specs.Prelude.{◌≡◌, ℕ, ◌<◌, ◌≤◌, Bool, true, false, not, ◌||◌, List, [], length, Option, Some, None, IfSome, IsSome, is_some, ◌+◌, ◌∷◌, nat_eq, sum_by}
 use Rattle.std.specs.Cmp.{nat_cmp_total}
 use Rattle.std.specs.Cmp.Lexicographic.{nat_list_cmp_total}
 use Rattle.std.specs.FinMap as map
+use Rattle.std.specs.List.{list_any}
 use Rattle.std.specs.Ordering.{nat_cmp}
 use Rattle.std.proofs.Common.{◌∙◌, ap, sym, refl, subst, inl, inr, arith}
 use Rattle.std.proofs.lemmas.Bool.{cases_lt}
 use Rattle.glacier_base.proofs.Finite.{bytes_cmp-IsAntisymmetric}
+use Rattle.glacier_base.proofs.Sums.{weight, sum_by-insert}
 use Rattle.glacier_extents.specs.declared.run.Run.{Run}
 use Rattle.glacier_vault.specs.Lawful.{IsLawful, IsLawfulArchive, IsLawfulUpload, IsLawfulPart, IsLawfulVault, IsDrawn}
 use Rattle.glacier_vault.specs.PartSizes.{last_index}
-use Rattle.glacier_vault.specs.Totals.{Vaults, upload_total, vault_total, naming}
+use Rattle.glacier_vault.specs.Totals.{Vaults, upload_total, vault_total, naming, times_named}
 use Rattle.glacier_vault.specs.declared.archive.Archive.{Archive}
 use Rattle.glacier_vault.specs.declared.archive.Finished.{Finished}
 use Rattle.glacier_vault.specs.declared.archive.Part.{Part}
 use Rattle.glacier_vault.specs.declared.archive.Upload.{Upload}
 use Rattle.glacier_vault.specs.declared.state.AccountState.{AccountState}
 use Rattle.glacier_vault.specs.declared.state.VaultState.{VaultState}
+use Rattle.glacier_vault.proofs.TotalsLemmas.{sum_by-empty, sum_by-none, total-insert}
 use Rattle.glacier_records.specs.declared.kept.Kept.TheVariants as kept
+use Rattle.glacier_records.specs.declared.kept.Blob.{Blob}
 use Rattle.glacier_restore.specs.Fitting.{are_apart, takes_archive, takes_upload, takes_part, upload_takes, takes_finished}
 use Rattle.glacier_restore.specs.Putting.{put_archive, put_part, with_archive, with_upload, with_part, in_upload, with_finished}
-use Rattle.glacier_restore.specs.Restoring.{put}
+use Rattle.glacier_restore.specs.Restoring.{is_named, put}
 use Rattle.glacier_restore.specs.Snapshot.{put_all, of_each, with_runs, archive_items, held_items, part_items, upload_items, finished_items}
 use Rattle.glacier_restore.specs.Sound.{IsSoundVault}
-use Rattle.glacier_restore.proofs.CountLemmas.{apart_again, value_within}
-use Rattle.glacier_restore.proofs.EachLemmas.{put_all-cons, each_entry, get_there, changed_there}
+use Rattle.glacier_restore.proofs.CountLemmas.{apart_again, none_of, uncounted, value_within}
+use Rattle.glacier_restore.proofs.EachLemmas.{HasRoom, put_all-cons, each_entry, get_there, changed_there}
 use Rattle.glacier_restore.proofs.GrownLemmas.{right_vault}
-use Rattle.glacier_restore.proofs.NamedLemmas.{one_if, times}
+use Rattle.glacier_restore.proofs.NamedLemmas.{one_if, times, times_step}
 use Rattle.glacier_restore.proofs.PlacedLemmas.{both, le_test, lt_test, eq_test, archive_again, part_again, placed-in, stand, archives_made, held_made, uploads_made, finished_made, past_test}
 
 pub none_of_two : {X Y : Type 0} (r : Option X) (s : Option Y) → r ≡ None → s ≡ None → not (is_some r || is_some s) ≡ true
@@ -56,7 +60,23 @@ module _ (a : AccountState) (lawful : IsLawful a) (name : List ℕ) (vault : Vau
   apart_held : (k : ℕ) (x : Archive) → map.get vault.held k ≡ Some x → are_apart a.counter x.blobs ≡ true
   apart_held k x is = named_once x (λ blob. omega (arith, value_within nat_cmp_total map.nat_cmp-IsAntisymmetric (naming blob).archive vault.held k x is))
 
-  module _ (runs : ℕ → List Run) (p : Vaults) where
+  module _ (runs : ℕ → List Run) (p : Vaults) (free : map.get p name ≡ None) (room : HasRoom a.vaults p vault) where
+    -- a blob for which the vault has room beside what is made of it isn't named yet
+    new_blob : (v : VaultState) (blob gain : ℕ) → vault_total (naming blob) v + gain ≤ vault_total (naming blob) vault → 1 ≤ gain → is_named (stand a p name v) blob ≡ false
+    new_blob v blob gain within some =
+        let none : times_named blob (map.insert p name v) ≡ 0 = omega (arith, total-insert (naming blob) p name v free, room (vault_total (naming blob)), within, some, (lawful.blobs blob).once) in
+        uncounted blob (stand a p name v) none
+
+    all_new : (b : AccountState) (ns : List ℕ) → ((n : ℕ) → 1 ≤ times n ns → is_named b n ≡ false) → list_any (λ (blob : Blob). is_named b blob.number) (with_runs runs ns) ≡ false
+    all_new b [] h = refl
+    all_new b (n ∷ ns) h =
+        none_of _ _ (h n (omega (arith, times_step n n ns, ap one_if (eq_test n n refl))))
+        (all_new b ns (λ m some. h m (omega (arith, some, times_step m n ns))))
+
+    archive_new : (v : VaultState) (x : Archive) → ((blob : ℕ) → vault_total (naming blob) v + times blob x.blobs ≤ vault_total (naming blob) vault)
+        → list_any (λ (blob : Blob). is_named (stand a p name v) blob.number) (with_runs runs x.blobs) ≡ false
+    archive_new v x within = all_new (stand a p name v) x.blobs (λ n some. new_blob v n (times n x.blobs) (within n) some)
+
     archive_put : (held : Bool) (k : ℕ) (x : Archive) → IsDrawn a.counter (IsLawfulArchive a.last) k x → are_apart a.counter x.blobs ≡ true
         → (v : VaultState) → map.len v.jobs ≡ 0 → map.get v.archives k ≡ None → map.get v.held k ≡ None
         → put (stand a p name v) x.created (kept.Archive name k held x.size x.description x.leaves (with_runs runs x.blobs)) ≡ Some (stand a p name (with_archive held k x v))
@@ -69,16 +89,29 @@ module _ (a : AccountState) (lawful : IsLawful a) (name : List ℕ) (vault : Vau
         (none_of_two (map.get v.archives k) (map.get v.held k) live gone))
 
     pub archives_again : put_all (stand a p name (archives_made vault map.empty)) (of_each (archive_items runs name) vault.archives) ≡ Some (stand a p name (archives_made vault vault.archives))
-    archives_again = each_entry nat_cmp_total map.nat_cmp-IsAntisymmetric vault.archives (λ q. stand a p name (archives_made vault q)) (archive_items runs name) (λ q k x is none.
+    archives_again = each_entry nat_cmp_total map.nat_cmp-IsAntisymmetric vault.archives (λ q. stand a p name (archives_made vault q)) (archive_items runs name) (λ q k x is none beside.
         let drawn = subst (λ r. IfSome r (IsDrawn a.counter (IsLawfulArchive a.last) k)) is (right.archives k) in
         put_all-cons x.created (kept.Archive name k false x.size x.description x.leaves (with_runs runs x.blobs)) [] (stand a p name (archives_made vault q)) _
+        (archive_new (archives_made vault q) x (λ blob. omega (
+          arith,
+          beside (naming blob).archive,
+          sum_by-empty nat_cmp (naming blob).archive,
+          sum_by-empty nat_cmp (upload_total (naming blob)),
+          sum_by-none (map.values (archives_made vault q).jobs),
+        )))
         (archive_put false k x drawn (apart_live k x is) (archives_made vault q) (map.len-empty nat_cmp _) none (map.get-empty nat_cmp k)))
 
     pub held_again : put_all (stand a p name (held_made vault map.empty)) (of_each (held_items runs name) vault.held) ≡ Some (stand a p name (held_made vault vault.held))
-    held_again = each_entry nat_cmp_total map.nat_cmp-IsAntisymmetric vault.held (λ q. stand a p name (held_made vault q)) (held_items runs name) (λ q k x is none.
+    held_again = each_entry nat_cmp_total map.nat_cmp-IsAntisymmetric vault.held (λ q. stand a p name (held_made vault q)) (held_items runs name) (λ q k x is none beside.
         let drawn = subst (λ r. IfSome r (IsDrawn a.counter (IsLawfulArchive a.last) k)) is (right.held k) in
         let dead = right.live_or_held k (subst IsSome (sym is) refl) in
         put_all-cons x.created (kept.Archive name k true x.size x.description x.leaves (with_runs runs x.blobs)) [] (stand a p name (held_made vault q)) _
+        (archive_new (held_made vault q) x (λ blob. omega (
+          arith,
+          beside (naming blob).archive,
+          sum_by-empty nat_cmp (upload_total (naming blob)),
+          sum_by-none (map.values (held_made vault q).jobs),
+        )))
         (archive_put true k x drawn (apart_held k x is) (held_made vault q) (map.len-empty nat_cmp _) dead none))
 
     module _ (q : map.FinMap nat_cmp Upload) (k : ℕ) (x : Upload) (is : IsDrawn a.counter (IsLawfulUpload a.last) k x) where
@@ -102,13 +135,31 @@ module _ (a : AccountState) (lawful : IsLawful a) (name : List ℕ) (vault : Vau
           ∙ both _ _ (both _ _ (both _ _ (le_test index last_index lawful_part.low) (le_test part.size x.part_size lawful_part.most)) (lt_test part.blob a.counter low)) (none_of_one (map.get parts index) none))
           ∙ ap (λ uploads. Some (stand a p name (uploads_made vault uploads))) (changed_there nat_cmp_total map.nat_cmp-IsAntisymmetric q k (parts_made parts) (with_part index part))
 
-      upload_again : ((index : ℕ) (part : Part) → map.get x.parts index ≡ Some part → part.blob < a.counter) → map.get q k ≡ None
+      part_new : map.get q k ≡ None → HasRoom vault.uploads q x → (parts : map.FinMap nat_cmp Part) (part : Part) → HasRoom x.parts parts part
+          → is_named (stand a p name (uploads_made vault (map.insert q k (parts_made parts)))) part.blob ≡ false
+      part_new none beside parts part within =
+          let w = naming part.blob in
+          let one : one_if (nat_eq part.blob part.blob) ≡ 1 = ap one_if (eq_test part.blob part.blob refl) in
+          new_blob (uploads_made vault (map.insert q k (parts_made parts))) part.blob 1
+          (omega (
+            arith,
+            one,
+            within w.part,
+            beside (upload_total w),
+            sum_by-insert nat_cmp_total (upload_total w) q k (parts_made parts),
+            ap (weight (upload_total w)) none,
+            sum_by-none (map.values (uploads_made vault (map.insert q k (parts_made parts))).jobs),
+          ))
+          (omega arith)
+
+      upload_again : ((index : ℕ) (part : Part) → map.get x.parts index ≡ Some part → part.blob < a.counter) → map.get q k ≡ None → HasRoom vault.uploads q x
           → put_all (stand a p name (uploads_made vault q)) (upload_items runs name k x) ≡ Some (stand a p name (uploads_made vault (map.insert q k x)))
-      upload_again low none =
-          put_all-cons x.created (kept.OpenUpload name k x.part_size x.description) (of_each (part_items runs name k) x.parts) (stand a p name (uploads_made vault q)) _ (upload_put none)
-          ∙ each_entry nat_cmp_total map.nat_cmp-IsAntisymmetric x.parts (λ parts. stand a p name (uploads_made vault (map.insert q k (parts_made parts)))) (part_items runs name k) (λ parts index part has missing.
+      upload_again low none beside =
+          put_all-cons x.created (kept.OpenUpload name k x.part_size x.description) (of_each (part_items runs name k) x.parts) (stand a p name (uploads_made vault q)) _ refl (upload_put none)
+          ∙ each_entry nat_cmp_total map.nat_cmp-IsAntisymmetric x.parts (λ parts. stand a p name (uploads_made vault (map.insert q k (parts_made parts)))) (part_items runs name k) (λ parts index part has missing within.
           let lawful_part = subst (λ r. IfSome r (IsLawfulPart x.part_size index)) has (is.right.parts index) in
           put_all-cons 0 (kept.OpenPart name k index part.size part.blob part.leaves (runs part.blob)) [] (stand a p name (uploads_made vault (map.insert q k (parts_made parts)))) _
+          (part_new none beside parts part within)
           (part_put parts index part lawful_part (low index part has) missing))
 
     -- a part's blob was drawn
@@ -126,14 +177,14 @@ module _ (a : AccountState) (lawful : IsLawful a) (name : List ℕ) (vault : Vau
     ]
 
     pub uploads_again : put_all (stand a p name (uploads_made vault map.empty)) (of_each (upload_items runs name) vault.uploads) ≡ Some (stand a p name (uploads_made vault vault.uploads))
-    uploads_again = each_entry nat_cmp_total map.nat_cmp-IsAntisymmetric vault.uploads (λ q. stand a p name (uploads_made vault q)) (upload_items runs name) (λ q k x is none.
+    uploads_again = each_entry nat_cmp_total map.nat_cmp-IsAntisymmetric vault.uploads (λ q. stand a p name (uploads_made vault q)) (upload_items runs name) (λ q k x is none beside.
         let drawn = subst (λ r. IfSome r (IsDrawn a.counter (IsLawfulUpload a.last) k)) is (right.uploads k) in
-        upload_again q k x drawn (part_low k x is) none)
+        upload_again q k x drawn (part_low k x is) none beside)
 
     pub finished_again : IsSoundVault vault → put_all (stand a p name (finished_made vault map.empty)) (of_each (finished_items name) vault.finished) ≡ Some (stand a p name (finished_made vault vault.finished))
-    finished_again sound = each_entry nat_cmp_total map.nat_cmp-IsAntisymmetric vault.finished (λ q. stand a p name (finished_made vault q)) (finished_items name) (λ q k x is none.
+    finished_again sound = each_entry nat_cmp_total map.nat_cmp-IsAntisymmetric vault.finished (λ q. stand a p name (finished_made vault q)) (finished_items name) (λ q k x is none _.
         let drawn = subst (λ r. IfSome r (IsDrawn a.counter (λ (finished : Finished). finished.at ≤ a.last) k)) is (right.finished k) in
         let size = subst (λ r. IfSome r (λ (finished : Finished). 1 ≤ finished.size)) is (sound.finished k) in
         let closed = right.open_or_finished k (subst IsSome (sym is) refl) in
-        put_all-cons x.at (kept.Finished name k x.size x.tree x.archive) [] (stand a p name (finished_made vault q)) _ (placed-in a.last a.counter p name (finished_made vault q) (takes_finished (stand a p name (finished_made vault q)) k x) (with_finished k x)
+        put_all-cons x.at (kept.Finished name k x.size x.tree x.archive) [] (stand a p name (finished_made vault q)) _ refl (placed-in a.last a.counter p name (finished_made vault q) (takes_finished (stand a p name (finished_made vault q)) k x) (with_finished k x)
         (both _ _ (both _ _ (past_test a.last a.counter p name x.at k drawn.drawn drawn.right) (le_test 1 x.size size)) (none_of_two (map.get vault.uploads k) (map.get q k) closed none))))

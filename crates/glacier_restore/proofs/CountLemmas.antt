@@ -30,7 +30,7 @@ not_one : (b : Bool) → one_if b ≡ 0 → b ≡ false
 not_one true e = absurd (omega (arith, e))
 not_one false e = refl
 
-none_of : (a b : Bool) → a ≡ false → b ≡ false → (a || b) ≡ false
+pub none_of : (a b : Bool) → a ≡ false → b ≡ false → (a || b) ≡ false
 none_of true b p q = cc
 none_of false b p q = q
 

@@ -120,7 +120,7 @@ module _ (a : AccountState) (p : Vaults) (name : List ℕ) (vault : VaultState) 
     lines_again csv is [] done are = ap (λ lines. Some (with_stage (stages.Done lines))) (sym (append-nil done))
     lines_again csv is (line ∷ left) done are =
         let rises = line_rises done line left are in
-        put_all-cons 0 (kept.Line name k line.archive line.size line.created line.description line.tree) (flat_map (line_items name k) left) (with_stage (stages.Done done)) _
+        put_all-cons 0 (kept.Line name k line.archive line.size line.created line.description line.tree) (flat_map (line_items name k) left) (with_stage (stages.Done done)) _ refl
         (line_put csv is done line rises.0 rises.1)
         ∙ lines_again csv is left (done ++ line ∷ []) (subst AreLines (sym (append_assoc done (line ∷ []) left)) are)
         ∙ ap (λ lines. Some (with_stage (stages.Done lines))) (append_assoc done (line ∷ []) left)
@@ -137,11 +137,11 @@ module _ (a : AccountState) (p : Vaults) (name : List ℕ) (vault : VaultState) 
     pub job_again : IsDrawn a.counter (IsLawfulJob a.counter a.last vault.archives vault.held) k x → HasLines x.work x.stage → map.get q k ≡ None
         → put_all (stand a p name (jobs_made vault q)) (job_items name k x) ≡ Some (stand a p name (jobs_made vault (map.insert q k x)))
     job_again is has none =
-        put_all-cons x.created (kept.Job name k x.ready x.tier (stage_name x.stage) x.description x.work) (flat_map (line_items name k) (lines_of x.stage)) (stand a p name (jobs_made vault q)) _ (job_put is none) ∙ stage_again x.work x.stage refl has
+        put_all-cons x.created (kept.Job name k x.ready x.tier (stage_name x.stage) x.description x.work) (flat_map (line_items name k) (lines_of x.stage)) (stand a p name (jobs_made vault q)) _ refl (job_put is none) ∙ stage_again x.work x.stage refl has
 
   pub jobs_again : IsLawfulVault a.counter a.last vault → IsSoundVault vault
       → put_all (stand a p name (jobs_made vault map.empty)) (of_each (job_items name) vault.jobs) ≡ Some (stand a p name (jobs_made vault vault.jobs))
-  jobs_again right sound = each_entry nat_cmp_total map.nat_cmp-IsAntisymmetric vault.jobs (λ q. stand a p name (jobs_made vault q)) (job_items name) (λ q k x is none.
+  jobs_again right sound = each_entry nat_cmp_total map.nat_cmp-IsAntisymmetric vault.jobs (λ q. stand a p name (jobs_made vault q)) (job_items name) (λ q k x is none _.
       let drawn = subst (λ r. IfSome r (IsDrawn a.counter (IsLawfulJob a.counter a.last vault.archives vault.held) k)) is (right.jobs k) in
       let has = subst (λ r. IfSome r (λ (job : Job). HasLines job.work job.stage)) is (sound.jobs k) in
       job_again q k x drawn has none)
@@ -153,6 +153,6 @@ module _ (a : AccountState) (p : Vaults) (name : List ℕ) (vault : VaultState) 
       let v = lock_made vault None in
       let of_policy : Result Policy PolicyFault → Option Lock = λ r. elim r as (λ _. Option Lock) [ Err fault ↦ None | Ok read ↦ Some (record { number = x.number; text = x.text; policy = read; created = x.created; locked = x.locked }) ] in
       let is : kept_lock x.created x.number x.locked x.text ≡ Some x = ap of_policy h.policy in
-      put_all-cons x.created (kept.Lock name x.number x.locked x.text) [] (stand a p name v) _ (
+      put_all-cons x.created (kept.Lock name x.number x.locked x.text) [] (stand a p name v) _ refl (
       ap (λ r. elim r as (λ _. Option AccountState) [ None ↦ None | Some lock ↦ put_lock (stand a p name v) name lock ]) is
       ∙ placed-in a.last a.counter p name v (takes_lock (stand a p name v) x) (with_lock x) (both _ _ (past_test a.last a.counter p name x.created x.number h.number h.created) refl))

@@ -3,7 +3,7 @@ use Rattle.std.specs.Prelude.{◌≡◌, ℕ, List, ◌++◌, Option, Some, None
 use Rattle.std.specs.Cmp.Lexicographic.{nat_list_cmp_total, slice_cmp}
 use Rattle.std.specs.FinMap as map
 use Rattle.std.specs.Ordering.{nat_cmp}
-use Rattle.std.proofs.Common.{◌∙◌, ap, sym, subst}
+use Rattle.std.proofs.Common.{◌∙◌, ap, sym, refl, subst}
 use Rattle.glacier_base.proofs.Finite.{bytes_cmp-IsAntisymmetric}
 use Rattle.glacier_extents.specs.declared.run.Run.{Run}
 use Rattle.glacier_vault.specs.Account.{empty_account, new_vault}
@@ -21,7 +21,7 @@ use Rattle.glacier_restore.specs.Restoring.{put}
 use Rattle.glacier_restore.specs.Snapshot.{put_all, of_each, archive_items, held_items, upload_items, finished_items, job_items, lock_items, held_in, vault_items, snapshot_items}
 use Rattle.glacier_restore.specs.Sound.{IsSound, IsSoundVault}
 use Rattle.glacier_restore.proofs.AgainLemmas.{none_of_one, archives_again, held_again, uploads_again, finished_again}
-use Rattle.glacier_restore.proofs.EachLemmas.{put_all-append, put_all-cons, each_entry}
+use Rattle.glacier_restore.proofs.EachLemmas.{HasRoom, put_all-append, put_all-cons, each_entry}
 use Rattle.glacier_restore.proofs.GrownLemmas.{right_vault}
 use Rattle.glacier_restore.proofs.JobsAgain.{jobs_again, lock_again}
 use Rattle.glacier_restore.proofs.PlacedLemmas.{both, le_test, account_of, stand, archives_made}
@@ -37,23 +37,23 @@ module _ (runs : ℕ → List Run) (a : AccountState) (lawful : IsLawful a) wher
         ∙ ap (λ bytes. Some (stand a p name (record (new_vault vault.created) { bytes = bytes }))) (sym (sum_by-empty nat_cmp (λ (x : Archive). x.size)))
         ∙ ap (λ due. Some (stand a p name (record (archives_made vault map.empty) { due = due }))) (sym (content_due-new_vault vault.created))
 
-    held_again_in : IsSoundVault vault → put_all (stand a p name (archives_made vault map.empty)) (held_in runs name vault) ≡ Some (stand a p name vault)
-    held_again_in sound =
+    held_again_in : IsSoundVault vault → map.get p name ≡ None → HasRoom a.vaults p vault → put_all (stand a p name (archives_made vault map.empty)) (held_in runs name vault) ≡ Some (stand a p name vault)
+    held_again_in sound none room =
         let jobs = of_each (job_items name) vault.jobs ++ lock_items name vault.lock in
         let finished = of_each (finished_items name) vault.finished ++ jobs in
         let uploads = of_each (upload_items runs name) vault.uploads ++ finished in
         let held = of_each (held_items runs name) vault.held ++ uploads in
-        put_all-append (of_each (archive_items runs name) vault.archives) held _ _ (archives_again a lawful name vault there runs p)
-        ∙ put_all-append (of_each (held_items runs name) vault.held) uploads _ _ (held_again a lawful name vault there runs p)
-        ∙ put_all-append (of_each (upload_items runs name) vault.uploads) finished _ _ (uploads_again a lawful name vault there runs p)
-        ∙ put_all-append (of_each (finished_items name) vault.finished) jobs _ _ (finished_again a lawful name vault there runs p sound)
+        put_all-append (of_each (archive_items runs name) vault.archives) held _ _ (archives_again a lawful name vault there runs p none room)
+        ∙ put_all-append (of_each (held_items runs name) vault.held) uploads _ _ (held_again a lawful name vault there runs p none room)
+        ∙ put_all-append (of_each (upload_items runs name) vault.uploads) finished _ _ (uploads_again a lawful name vault there runs p none room)
+        ∙ put_all-append (of_each (finished_items name) vault.finished) jobs _ _ (finished_again a lawful name vault there runs p none room sound)
         ∙ put_all-append (of_each (job_items name) vault.jobs) (lock_items name vault.lock) _ _ (jobs_again a p name vault right sound)
         ∙ lock_again a p name vault vault.lock right.lock
         ∙ ap (λ bytes. Some (stand a p name (with_due (record vault { bytes = bytes })))) (sym right.bytes)
         ∙ ap (λ due. Some (stand a p name (record vault { due = due }))) (sym right.due)
 
-    vault_again : IsSoundVault vault → map.get p name ≡ None → put_all (account_of a.last a.counter p) (vault_items runs name vault) ≡ Some (account_of a.last a.counter (map.insert p name vault))
-    vault_again sound none = put_all-cons vault.created (kept.Vault name) (held_in runs name vault) (account_of a.last a.counter p) _ (vault_put none) ∙ held_again_in sound
+    vault_again : IsSoundVault vault → map.get p name ≡ None → HasRoom a.vaults p vault → put_all (account_of a.last a.counter p) (vault_items runs name vault) ≡ Some (account_of a.last a.counter (map.insert p name vault))
+    vault_again sound none room = put_all-cons vault.created (kept.Vault name) (held_in runs name vault) (account_of a.last a.counter p) _ refl (vault_put none) ∙ held_again_in sound none room
 
   account_put : put empty_account a.last (kept.Account a.counter) ≡ Some (account_of a.last a.counter map.empty)
   account_put =
@@ -74,7 +74,7 @@ module _ (runs : ℕ → List Run) (a : AccountState) (lawful : IsLawful a) wher
 
   pub account_again : IsSound a → put_all empty_account (snapshot_items runs a) ≡ Some a
   account_again sound =
-      put_all-cons a.last (kept.Account a.counter) (of_each (vault_items runs) a.vaults) empty_account _ account_put
-      ∙ each_entry nat_list_cmp_total bytes_cmp-IsAntisymmetric a.vaults (account_of a.last a.counter) (vault_items runs) (λ p name vault there none.
-      vault_again p name vault there (subst (λ r. IfSome r IsSoundVault) there (sound.vaults name)) none)
+      put_all-cons a.last (kept.Account a.counter) (of_each (vault_items runs) a.vaults) empty_account _ refl account_put
+      ∙ each_entry nat_list_cmp_total bytes_cmp-IsAntisymmetric a.vaults (account_of a.last a.counter) (vault_items runs) (λ p name vault there none room.
+      vault_again p name vault there (subst (λ r. IfSome r IsSoundVault) there (sound.vaults name)) none room)
       ∙ ap (λ b. Some b) totals_again

@@ -20,7 +20,7 @@ use Rattle.glacier_records.specs.declared.kept.Kept.{Kept}
 use Rattle.glacier_records.specs.declared.kept.Kept.TheVariants as kept
 use Rattle.glacier_records.specs.declared.kept.StageName.{StageName}
 use Rattle.glacier_records.specs.declared.kept.StageName.TheVariants as stage_names
-use Rattle.glacier_restore.specs.Restoring.{put}
+use Rattle.glacier_restore.specs.Restoring.{restored}
 
 -- items, each with its moment
 abbrev pub Items : Type 0
@@ -29,7 +29,7 @@ Items = List (ℕ × Kept)
 -- what items make of an account one after another, or None where one doesn't fit
 abbrev pub put_all : AccountState → Items → Option AccountState
 put_all a [] = Some a
-put_all a (item ∷ items) = elim (put a item.0 item.1) [ None ↦ None | Some next ↦ put_all next items ]
+put_all a (item ∷ items) = elim (restored a item.0 item.1) [ None ↦ None | Some next ↦ put_all next items ]
 
 -- the items of each entry of a map, in the order of its keys
 abbrev pub of_each : {K X : Type 0} {R : K → K → Ordering} → (K → X → Items) → map.FinMap R X → Items
