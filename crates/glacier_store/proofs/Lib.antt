@@ -1,8 +1,13 @@
 pub mod AccountLemmas
 pub mod CommitLemmas
 pub mod EventLemmas
+pub mod EventOfLemmas
+pub mod HeldLemmas
+pub mod KeepsLemmas
 pub mod OpenLemmas
 pub mod PlaceLemmas
 pub mod RecordLengths
+pub mod RecoverLemmas
 pub mod ReplayedLemmas
+pub mod RoomLemmas
 pub mod StandsLemmas

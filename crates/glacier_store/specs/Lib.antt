@@ -2,6 +2,8 @@ pub mod Calls
 pub mod Changes
 pub mod Events
 pub mod Faults
+pub mod Held
+pub mod HoldingCalls
 pub mod PolicyCode
 pub mod Replayed
 pub mod Stands

@@ -3,7 +3,9 @@
 
 mod accounts;
 mod changing;
+mod committing;
 mod fault;
+mod holding;
 mod keeping;
 pub mod laws;
 mod replaying;
@@ -11,4 +13,5 @@ mod store;
 
 pub use accounts::Accounts;
 pub use fault::StoreFault;
+pub use holding::Holding;
 pub use store::Store;

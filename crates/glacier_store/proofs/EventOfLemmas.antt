@@ -1,0 +1,97 @@
+-- What an event that fits makes of the accounts, of the blobs and of the free blocks.
+use Rattle.std.specs.FinMap as map
+use Rattle.std.proofs.Common.{◌≡◌, ℕ, ◌<◌, Bool, true, false, ◌&&◌, not, List, [], ◌∷◌, Option, Some, None, refl, sym, ◌∙◌, ap, subst}
+use Rattle.std.specs.Prelude.{IsSome, is_some}
+use Rattle.glacier_bodies.specs.BlobAreas.{AreaState, IsOpen, with_blob, without_blob}
+use Rattle.glacier_bodies.specs.Stands.{Layouts, at_blob}
+use Rattle.glacier_bodies.proofs.NameLemmas.{blob_after, blob_without}
+use Rattle.glacier_extents.specs.declared.run.Run.{Run}
+use Rattle.glacier_extents.specs.Runs.{block_count, has_block}
+use Rattle.glacier_vault.specs.declared.event.Event.{Event}
+use Rattle.glacier_replay.specs.Accounts.{Accounts, account_in}
+use Rattle.glacier_replay.specs.Changes.{AccountEvent, State, accounts_after, after_account_event, blobs_after, body_in, change_in, leaf_count, new_blob, with_new, without_blobs}
+use Rattle.glacier_replay.specs.Made.{BlocksFit, EventFits, Holdings, IsRest, IsSettled, after_event}
+use Rattle.glacier_replay.specs.Replayed.{Replay}
+use Rattle.glacier_replay.proofs.RestLemmas.{apart_with, apart_without, rest_with}
+use Rattle.glacier_store.specs.Held.{IsRestBeside}
+use Rattle.glacier_store.specs.HoldingCalls.{IsEventOf}
+
+-- the blob that an event makes, where it has a body and where it has none
+pub no_new : {X : Type 0} (counter : ℕ) (event : Event) (x : X) → body_in event ≡ None → new_blob counter event x ≡ None
+no_new {X} counter event x none = ap (λ (r : Option (ℕ × List (List ℕ))). elim r as (λ _. Option (ℕ × X)) [ None ↦ None | Some told ↦ Some (counter, x) ]) none
+
+pub its_new : {X : Type 0} (counter : ℕ) (event : Event) (x : X) → IsSome (body_in event) → new_blob counter event x ≡ Some (counter, x)
+its_new {X} counter event x some = at (body_in event) some
+  where
+    at : (r : Option (ℕ × List (List ℕ))) → IsSome r → (elim r as (λ _. Option (ℕ × X)) [ None ↦ None | Some told ↦ Some (counter, x) ]) ≡ Some (counter, x)
+    at None no = cc
+    at (Some told) yes = refl
+
+module _ (before : State) (after : Accounts) (h : AccountEvent) (freed : List ℕ) (event : IsEventOf before.accounts after h freed) where
+  -- the accounts after it are those of the state after it
+  pub accounts_are : after ≡ (after_account_event before h).accounts
+  accounts_are = event.after_is ∙ sym (ap (λ (r : Replay). accounts_after before.accounts h.account r) event.change)
+
+  -- its blob comes in, and those that it frees go
+  pub layouts_are : (layouts : Layouts) (runs : List Run) → (after_event (record { accounts = before.accounts; layouts = layouts }) h.account h.moment h.event runs).layouts
+      ≡ without_blobs (with_new layouts h.account (new_blob (account_in before.accounts h.account).counter h.event runs)) h.account freed
+  layouts_are layouts runs = ap (λ (r : Replay). blobs_after layouts h.account (new_blob (account_in before.accounts h.account).counter h.event runs) r) event.change
+
+  -- it fits what is held, with the blocks of an open body
+  pub event_fits : (area : AreaState) (runs : List Run) → IsOpen area runs → block_count runs ≡ leaf_count h.event
+      → EventFits (record { accounts = before.accounts; layouts = area.blobs }) h.account h.moment h.event runs
+  event_fits area runs opened count = record {
+    fits = ap is_some event.change;
+    blocks_fit = record { count = count; distinct = opened.distinct; unnamed = opened.unnamed };
+  }
+
+-- no block is an open body's
+pub none_open : (area : AreaState) → IsOpen area []
+none_open area = record { distinct = tt; used = λ b is. cc; unnamed = λ account number runs there b is. cc }
+
+-- no body is open, and all blocks that no blob has are free
+pub rest_alone : (free : List Run) (layouts : Layouts) → IsRestBeside [] free layouts → IsRest free layouts
+rest_alone free layouts beside =
+    let same : (b : ℕ) → has_block free b ≡ has_block beside.whole b = λ b. beside.taken b ∙ and_true (has_block beside.whole b) in
+    record {
+      within = λ b is. beside.rest.within b (sym (same b) ∙ is);
+      nobodys = λ b is. beside.rest.nobodys b (sym (same b) ∙ is);
+      all = λ b low nobody. same b ∙ beside.rest.all b low nobody;
+    }
+  where
+    and_true : (c : Bool) → (c && true) ≡ c
+    and_true true = refl
+    and_true false = refl
+
+-- and back
+pub beside_none : (free : List Run) (layouts : Layouts) → IsRest free layouts → IsRestBeside [] free layouts
+beside_none free layouts rest = record { whole = free; rest = rest; taken = λ b. and_true (has_block free b) }
+  where
+    and_true : (c : Bool) → c ≡ (c && true)
+    and_true true = refl
+    and_true false = refl
+
+-- an open body becomes a blob
+pub rest_named : (own free : List Run) (layouts : Layouts) (account : List ℕ) (number : ℕ) → at_blob layouts account number ≡ None
+    → IsRestBeside own free layouts → IsRest free (with_blob layouts account number own)
+rest_named own free layouts account number fresh beside = rest_with beside.whole layouts beside.rest account number own free fresh beside.taken
+
+-- what is held stays settled where an open body becomes a blob
+pub settled_with : (accounts : Accounts) (area : AreaState) (account : List ℕ) (number : ℕ) (runs : List Run) → IsSettled (record { accounts = accounts; layouts = area.blobs })
+    → IsOpen area runs → number < (account_in accounts account).counter → IsSettled (record { accounts = accounts; layouts = with_blob area.blobs account number runs })
+settled_with accounts area account number runs settled opened drawn = record {
+  apart = apart_with area.blobs account number runs settled.apart opened.distinct opened.unnamed;
+  drawn = λ a n own there. elim (blob_after area.blobs account a number n runs own there) [
+    | inl mine ↦ subst (λ (k : ℕ). k < (account_in accounts a).counter) (sym mine.1) (subst (λ (k : List ℕ). number < (account_in accounts k).counter) (sym mine.0) drawn)
+    | inr old ↦ settled.drawn a n own old
+  ];
+}
+
+-- and where blobs go
+pub settled_without : (accounts : Accounts) (layouts : Layouts) (account numbers : List ℕ) → IsSettled (record { accounts = accounts; layouts = layouts })
+    → IsSettled (record { accounts = accounts; layouts = without_blobs layouts account numbers })
+settled_without accounts layouts account [] settled = settled
+settled_without accounts layouts account (number ∷ numbers) settled = settled_without accounts (without_blob layouts account number) account numbers (record {
+  apart = apart_without layouts account number settled.apart;
+  drawn = λ a n own there. settled.drawn a n own (blob_without layouts account a number n own there).0;
+})

@@ -1,0 +1,73 @@
+-- What keeping an event answers.
+use Rattle.std.proofs.Common.{◌≡◌, inl, ℕ, ◌+◌, List, [], ◌∷◌, ◌++◌, length, Ok, Err, sym, ◌∙◌, ap, subst}
+use Rattle.std.specs.Prelude.{Result, IfOk, IsErrOf}
+use Rattle.glacier_bodies.specs.BlobAreas.{AreaState, IsOpen}
+use Rattle.glacier_bodies.specs.Blobs.{Holds}
+use Rattle.glacier_bodies.specs.Stands.{Layouts}
+use Rattle.glacier_disk.specs.declared.area.Area.TheVariants.{Blobs}
+use Rattle.glacier_disk.specs.Moments.{weaker}
+use Rattle.glacier_disk.specs.Told.{Told, Lawful}
+use Rattle.glacier_disk.proofs.TouchesLemmas.{touches_start}
+use Rattle.glacier_extents.specs.declared.run.Run.{Run}
+use Rattle.glacier_extents.specs.Runs.{block_count}
+use Rattle.glacier_journal.specs.Appending.{Appends, IsDurable}
+use Rattle.glacier_journal.specs.Listed.{AllList, Payloads}
+use Rattle.glacier_journal.specs.declared.journal.Journal.{Journal}
+use Rattle.glacier_records.specs.Spells.{Spells}
+use Rattle.glacier_replay.specs.Accounts.{Accounts, account_in}
+use Rattle.glacier_replay.specs.Changes.{AccountEvent, IsBodyOf, State, after_account_event, leaf_count, new_blob, with_new, without_blobs}
+use Rattle.glacier_replay.specs.Made.{EventFits, IsRest, record_of}
+use Rattle.glacier_store.specs.Held.{IsHeldBy, IsRestBeside}
+use Rattle.glacier_store.specs.HoldingCalls.{IsEventOf, Keeps}
+use Rattle.glacier_store.specs.declared.fault.StoreFault.{StoreFault}
+use Rattle.glacier_store.specs.declared.fault.StoreFault.TheVariants as fault
+use Rattle.glacier_store.specs.declared.holding.Holding.{Holding}
+use Rattle.glacier_store.proofs.EventOfLemmas.{accounts_are, event_fits, layouts_are}
+use Rattle.glacier_store.proofs.HeldLemmas.{becomes, held_on, layouts_after, remains_start}
+
+-- memory was wanting before the first call of the disk
+pub kept_without_memory : (old : Told) (journal : Journal) (area : AreaState) (own : List Run) (before after : State) → Lawful old
+    → Keeps old old journal area own before after (Err fault.Memory)
+kept_without_memory old journal area own before after law = record {
+  any_moment = λ held. weaker old old _ _ (remains_start old journal area.blobs before law held) (λ i stands. inl stands);
+  memory = λ held is. remains_start old journal area.blobs before law held;
+  kept = λ held beside. tt;
+  touches = touches_start journal.area old law;
+}
+
+module _ (old new : Told) (journal : Journal) (area : AreaState) (own : List Run) (before : State) (h : AccountEvent) (afterwards : Accounts) (freed payload : List ℕ)
+    (law : Lawful old) (event : IsEventOf before.accounts afterwards h freed) (spells : Spells payload (record_of h own))
+    (opened : IsOpen area own) (count : block_count own ≡ leaf_count h.event) (body_is : IsBodyOf h.event h.body) (stored : Holds own h.body (old.reads Blobs))
+    (named : AreaState) (named_is : named.blobs ≡ with_new area.blobs h.account (new_blob (account_in before.accounts h.account).counter h.event own))
+    (rest_is : IsRestBeside own area.free area.blobs → IsRest named.free named.blobs) (appends : Appends journal.area journal.length payload old new) where
+  fits : EventFits (record { accounts = before.accounts; layouts = area.blobs }) h.account h.moment h.event own
+  fits = event_fits before afterwards h freed event area own opened count
+
+  its_layouts : (done : Layouts) → done ≡ without_blobs named.blobs h.account freed
+      → done ≡ layouts_after old new journal area.blobs before h own payload law spells event.lawful fits body_is stored
+  its_layouts done is = is ∙ ap (λ (m : Layouts). without_blobs m h.account freed) named_is ∙ sym (layouts_are before afterwards h freed event area.blobs own)
+
+  -- the record was appended, or not
+  pub kept_by_append : (result : Result Holding StoreFault)
+      → ((payloads : Payloads) → AllList old.leaves journal.area payloads journal.length
+      → IfOk result (λ done. IsDurable old new journal.area done.journal.area (payloads ++ payload ∷ []) done.journal.length))
+      → IfOk result (λ done. done.accounts ≡ afterwards) → IfOk result (λ done. done.area.blobs ≡ without_blobs named.blobs h.account freed)
+      → IfOk result (λ done. IsRest named.free named.blobs → IsRest done.area.free done.area.blobs) → (IsErrOf result fault.Memory → ⊥)
+      → Keeps old new journal area own before (after_account_event before h) result
+  kept_by_append (Ok done) acknowledged accounts blobs rest no_memory = record {
+    any_moment = λ held. becomes old new journal area.blobs before h own payload law spells event.lawful fits body_is stored held appends;
+    memory = λ held is. absurd (cc is);
+    kept = λ held beside. record {
+      accounts = accounts ∙ accounts_are before afterwards h freed event;
+      held = subst (λ (l : Layouts). IsHeldBy new done.journal l (after_account_event before h)) (sym (its_layouts done.area.blobs blobs))
+          (held_on old new journal area.blobs before h own payload law spells event.lawful fits body_is stored held done.journal (acknowledged held.payloads held.listed));
+      rest = rest (rest_is beside);
+    };
+    touches = appends.touches;
+  }
+  kept_by_append (Err why) acknowledged accounts blobs rest no_memory = record {
+    any_moment = λ held. becomes old new journal area.blobs before h own payload law spells event.lawful fits body_is stored held appends;
+    memory = λ held is. absurd (no_memory is);
+    kept = λ held beside. tt;
+    touches = appends.touches;
+  }

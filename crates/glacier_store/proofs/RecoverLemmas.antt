@@ -1,0 +1,104 @@
+-- What opening a holding answers, and what making one does.
+use Rattle.std.specs.FinMap as map
+use Rattle.std.proofs.Common.{◌≡◌, ◌⊎◌, inl, inr, ⊎_elim, ℕ, [], Ok, Err, ◌∙◌, sym, ap, subst}
+use Rattle.glacier_bodies.specs.BlobAreas.{AreaState}
+use Rattle.glacier_bodies.specs.Stands.{Layouts}
+use Rattle.glacier_disk.specs.declared.area.Area.{Area}
+use Rattle.glacier_disk.specs.declared.area.Area.TheVariants.{Blobs}
+use Rattle.glacier_disk.specs.Image.{Image, Only}
+use Rattle.glacier_disk.specs.Moments.{Looks}
+use Rattle.glacier_disk.specs.Told.{Told}
+use Rattle.glacier_journal.specs.Breaks.{Breaks}
+use Rattle.glacier_journal.specs.Listed.{Listed, Payloads}
+use Rattle.glacier_journal.specs.declared.fault.JournalFault.{JournalFault}
+use Rattle.glacier_journal.specs.declared.fault.JournalFault.TheVariants as journal
+use Rattle.glacier_journal.proofs.OneList.{breaks_none, one_list}
+use Rattle.glacier_replay.specs.Accounts.{Accounts}
+use Rattle.glacier_replay.specs.Changes.{State}
+use Rattle.glacier_replay.specs.Made.{Holdings, IsRest, Makes, nothing}
+use Rattle.glacier_replay.specs.Standing.{IsStateOf, Stands}
+use Rattle.glacier_replay.proofs.MadeLemmas.{bad_makes_none, leads_one}
+use Rattle.glacier_store.specs.Faults.{store_fault}
+use Rattle.glacier_store.specs.Held.{IsKept, ListsBadRecord, Refuses}
+use Rattle.glacier_store.specs.HoldingCalls.{Recovers}
+use Rattle.glacier_store.specs.declared.fault.StoreFault.{StoreFault}
+use Rattle.glacier_store.specs.declared.fault.StoreFault.TheVariants as store
+use Rattle.glacier_store.specs.declared.holding.Holding.{Holding}
+use Rattle.glacier_store.proofs.HeldLemmas.{only_held}
+
+-- what is refused stands for nothing
+pub refused_stands_none : (i : Image) (area : Area) (at : ℕ) (state : State) → Refuses i area at → Stands i state → ⊥
+refused_stands_none i area at state refused stands =
+    ⊎_elim
+    (λ breaks. breaks_none i area stands.area at stands.end stands.payloads breaks stands.listed)
+    (λ (bad : ListsBadRecord i area at).
+    let same = one_list i stands.area area stands.payloads bad.payloads stands.end bad.end stands.listed bad.listed in
+    bad_makes_none bad.payloads at (record { accounts = state.accounts; layouts = stands.layouts }) bad.record_is
+    (subst (λ (l : Payloads). Makes l state.accounts stands.layouts) same.1 stands.state_is.made))
+    refused
+
+abbrev IsRefusal : JournalFault → Type 0
+IsRefusal failure = (area : Area) × (at : ℕ) × (failure ≡ journal.NotAJournal area at)
+
+module _ (old new : Told) (looks : Looks old new) where
+  -- a holding is found, and it is that of the state that the disk stands for
+  module _ (h : Holding) (payloads : Payloads) (listed : Listed old.reads h.journal.area payloads h.journal.length) (made : Makes payloads h.accounts h.area.blobs)
+      (rest : IsRest h.area.free h.area.blobs) (only : Only old.reads new.leaves) where
+    kept : (state : State) → Stands old.reads state → IsKept new h state
+    kept state stands =
+        let lists = one_list old.reads stands.area h.journal.area stands.payloads payloads stands.end h.journal.length stands.listed listed in
+        let is : IsStateOf payloads stands.layouts (old.reads Blobs) state = subst (λ (l : Payloads). IsStateOf l stands.layouts (old.reads Blobs) state) lists.1 stands.state_is in
+        let same : ◌≡◌ {A = Holdings} (record { accounts = h.accounts; layouts = h.area.blobs }) (record { accounts = state.accounts; layouts = stands.layouts }) = leads_one payloads nothing _ _ made is.made in
+        let layouts : stands.layouts ≡ h.area.blobs = sym (ap (λ (x : Holdings). x.layouts) same) in
+        record {
+          accounts = ap (λ (x : Holdings). x.accounts) same;
+          held = only_held old.reads new h.journal payloads h.area.blobs state only listed (subst (λ (l : Layouts). IsStateOf payloads l (old.reads Blobs) state) layouts is);
+          rest = rest;
+        }
+
+    pub recovered : Recovers old new (Ok h)
+    recovered = record {
+      reads = record { area = h.journal.area; payloads = payloads; end = h.journal.length; listed = listed; made = made };
+      refuses = λ area at is. absurd (cc is);
+      found = kept;
+      not_refused = λ state stands. tt;
+      looks = looks;
+    }
+
+  -- the disk is refused
+  pub unread : (area : Area) (at : ℕ) → Refuses old.reads area at → Recovers old new (Err (store.NotAJournal area at))
+  unread area at refuses = record {
+    reads = tt;
+    refuses = λ other place is.
+        let area_is : area ≡ other = cc is in
+        let at_is : at ≡ place = cc is in
+        subst (λ (a : Area). Refuses old.reads a place) area_is (subst (λ (n : ℕ). Refuses old.reads area n) at_is refuses);
+    found = λ state stands. tt;
+    not_refused = λ state stands. absurd (refused_stands_none old.reads area at state refuses stands);
+    looks = looks;
+  }
+
+  -- a call of the disk failed, or memory was wanting
+  pub gave_up : (why : StoreFault) → (why ≡ store.Disk) ⊎ (why ≡ store.Memory) → Recovers old new (Err why)
+  gave_up why cause = record {
+    reads = tt;
+    refuses = λ area at is. absurd (⊎_elim (λ e. cc (is, e)) (λ e. cc (is, e)) cause);
+    found = λ state stands. tt;
+    not_refused = λ state stands. cause;
+    looks = looks;
+  }
+
+  -- the journal wasn't opened
+  pub no_journal : (failure : JournalFault) (why : StoreFault) → why ≡ store_fault failure
+      → (failure ≡ journal.Disk) ⊎ ((failure ≡ journal.Memory) ⊎ IsRefusal failure)
+      → ((area : Area) (at : ℕ) → failure ≡ journal.NotAJournal area at → Breaks old.reads area at)
+      → Recovers old new (Err why)
+  no_journal failure why is cause breaks =
+      ⊎_elim
+      (λ (e : failure ≡ journal.Disk). gave_up why (inl (is ∙ ap store_fault e)))
+      (⊎_elim
+      (λ (e : failure ≡ journal.Memory). gave_up why (inr (is ∙ ap store_fault e)))
+      (λ (e : IsRefusal failure).
+      subst (λ (w : StoreFault). Recovers old new (Err w)) (sym (is ∙ ap store_fault e.2))
+      (unread e.0 e.1 (inl (breaks e.0 e.1 e.2)))))
+      cause

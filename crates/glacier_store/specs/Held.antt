@@ -1,0 +1,65 @@
+-- What a holding stands for: the state with the whole bytes of each blob, kept on a disk.
+use Rattle.std.specs.Prelude.{◌≡◌, ◌⊎◌, ℕ, ◌&&◌, not, List}
+use Rattle.glacier_bodies.specs.Stands.{Layouts}
+use Rattle.glacier_disk.specs.declared.area.Area.{Area}
+use Rattle.glacier_disk.specs.declared.area.Area.TheVariants.{Blobs}
+use Rattle.glacier_disk.specs.Image.{Image}
+use Rattle.glacier_disk.specs.Moments.{LeavesOnly}
+use Rattle.glacier_disk.specs.Told.{Told}
+use Rattle.glacier_extents.specs.declared.run.Run.{Run}
+use Rattle.glacier_extents.specs.Runs.{has_block}
+use Rattle.glacier_journal.specs.Breaks.{Breaks}
+use Rattle.glacier_journal.specs.Listed.{Payloads, Listed, AllList}
+use Rattle.glacier_journal.specs.declared.journal.Journal.{Journal}
+use Rattle.glacier_replay.specs.Accounts.{Accounts}
+use Rattle.glacier_replay.specs.Changes.{State}
+use Rattle.glacier_replay.specs.Made.{BadRecord, IsRest, Makes}
+use Rattle.glacier_replay.specs.Standing.{IsStateOf, Stands}
+use Rattle.glacier_store.specs.declared.holding.Holding.{Holding}
+
+-- A journal on the disk makes the state, with these runs of each blob: each image that a crash now may leave lists the
+-- same payloads where the journal says, and has the bytes of the state's blobs in their runs.
+pub record IsHeldBy (disk : Told) (journal : Journal) (layouts : Layouts) (state : State) : Type 0 where
+  pub payloads : Payloads
+  pub listed : AllList disk.leaves journal.area payloads journal.length
+  pub state_is : (i : Image) → disk.leaves i → IsStateOf payloads layouts (i Blobs) state
+
+-- the free blocks are those that no blob has, but for those of an open body
+pub record IsRestBeside (own free : List Run) (layouts : Layouts) : Type 0 where
+  -- the free blocks before the body took its own
+  pub whole : List Run
+  pub rest : IsRest whole layouts
+  pub taken : (b : ℕ) → has_block free b ≡ (has_block whole b && not (has_block own b))
+
+-- a holding is kept: its journal makes its accounts and its blobs, and all other blocks are free
+pub record IsKept (disk : Told) (holding : Holding) (state : State) : Type 0 where
+  pub accounts : holding.accounts ≡ state.accounts
+  pub held : IsHeldBy disk holding.journal holding.area.blobs state
+  pub rest : IsRest holding.area.free holding.area.blobs
+
+-- what opening finds: the image lists payloads that make these accounts and these runs of each blob
+pub record ReadsAs (image : Image) (accounts : Accounts) (layouts : Layouts) : Type 0 where
+  pub area : Area
+  pub payloads : Payloads
+  pub end : ℕ
+  pub listed : Listed image area payloads end
+  pub made : Makes payloads accounts layouts
+
+-- the image lists payloads, and at this place the first that spells no record, or one that doesn't fit
+pub record ListsBadRecord (image : Image) (area : Area) (at : ℕ) : Type 0 where
+  pub payloads : Payloads
+  pub end : ℕ
+  pub listed : Listed image area payloads end
+  pub record_is : BadRecord payloads at
+
+-- the first place that keeps an image from being read
+abbrev pub Refuses : Image → Area → ℕ → Type 0
+Refuses image area at = Breaks image area at ⊎ ListsBadRecord image area at
+
+-- at each moment since a call's start a crash leaves the state before it or the one after it
+abbrev pub Becomes : Told → Told → State → State → Type 0
+Becomes old new before after = LeavesOnly old new (λ i. Stands i before ⊎ Stands i after)
+
+-- at each moment since a call's start a crash leaves this state
+abbrev pub Remains : Told → Told → State → Type 0
+Remains old new state = LeavesOnly old new (λ i. Stands i state)

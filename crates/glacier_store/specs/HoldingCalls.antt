@@ -1,0 +1,81 @@
+-- What each call of a holding makes of the disk, and why it fails.
+use Rattle.std.specs.Prelude.{◌≡◌, ◌⊎◌, ℕ, ◌+◌, ◌<◌, ◌≤◌, ◌^◌, List, Some, None, Result, IfOk, OnOk, IfErr, IsErrOf, length}
+use Rattle.std.specs.FinMap as map
+use Rattle.glacier_bodies.specs.BlobAreas.{AreaState}
+use Rattle.glacier_disk.specs.declared.area.Area.{Area}
+use Rattle.glacier_disk.specs.Moments.{Looks}
+use Rattle.glacier_disk.specs.Told.{Told}
+use Rattle.glacier_disk.specs.Touches.{Touches}
+use Rattle.glacier_extents.specs.declared.run.Run.{Run}
+use Rattle.glacier_journal.specs.Breaks.{areas, first_full}
+use Rattle.glacier_journal.specs.Listed.{IsNew}
+use Rattle.glacier_journal.specs.declared.journal.Journal.{Journal}
+use Rattle.glacier_records.specs.Spells.{spelling}
+use Rattle.glacier_vault.specs.Lawful.{IsLawful}
+use Rattle.glacier_vault.specs.declared.event.Event.{Event}
+use Rattle.glacier_vault.specs.declared.state.AccountState.{AccountState}
+use Rattle.glacier_replay.specs.Accounts.{Accounts, account_in}
+use Rattle.glacier_replay.specs.Changes.{AccountEvent, State, change_in}
+use Rattle.glacier_replay.specs.Made.{record_of}
+use Rattle.glacier_replay.specs.Standing.{Stands}
+use Rattle.glacier_store.specs.Held.{Becomes, IsHeldBy, IsKept, IsRestBeside, ReadsAs, Refuses, Remains}
+use Rattle.glacier_store.specs.declared.fault.StoreFault.{StoreFault}
+use Rattle.glacier_store.specs.declared.fault.StoreFault.TheVariants as fault
+use Rattle.glacier_store.specs.declared.holding.Holding.{Holding}
+
+-- the state of no account
+abbrev pub no_state : State
+no_state = record { accounts = map.empty; bodies = map.empty }
+
+-- a holding is made where all areas are empty, and nowhere else: where one isn't, it stays as it is
+pub record Founds (old new : Told) (result : Result Holding StoreFault) : Type 0 where
+  pub kept : IfOk result (λ holding. IsKept new holding no_state)
+  pub made : OnOk result (IsNew new.reads)
+  pub empty : OnOk result (first_full old.reads areas ≡ None)
+  pub not_empty : (area : Area) (size : ℕ) → IsErrOf result (fault.NotEmpty area size)
+      → first_full old.reads areas ≡ Some (area, size)
+  pub untouched : (first_full old.reads areas ≡ None → ⊥) → Looks old new
+  pub length : IfOk result (λ holding. holding.journal.length ≡ 17)
+
+-- the holding is opened that the disk reads as, or its first place is told that keeps it from it
+pub record Recovers (old new : Told) (result : Result Holding StoreFault) : Type 0 where
+  pub reads : IfOk result (λ holding. ReadsAs old.reads holding.accounts holding.area.blobs)
+  pub refuses : (area : Area) (at : ℕ) → IsErrOf result (fault.NotAJournal area at) → Refuses old.reads area at
+  -- where the disk stands for a state, it is opened as that state, or not for want of memory or by a fault of it
+  pub found : (state : State) → Stands old.reads state → IfOk result (λ holding. IsKept new holding state)
+  pub not_refused : (state : State) → Stands old.reads state
+      → IfErr result (λ why. (why ≡ fault.Disk) ⊎ (why ≡ fault.Memory))
+  pub looks : Looks old new
+
+-- an event of an account at a moment, with the bytes of its body
+abbrev pub event_at : List ℕ → ℕ → Event → List ℕ → AccountEvent
+event_at account moment event body = record { account = account; moment = moment; event = event; body = body }
+
+-- an event of an account fits, makes these accounts of those before it, and frees these blobs
+pub record IsEventOf (before after : Accounts) (h : AccountEvent) (freed : List ℕ) : Type 0 where
+  pub lawful : IsLawful (account_in before h.account)
+  pub becomes : AccountState
+  pub change : change_in before h.account h.moment h.event ≡ Some (becomes, freed)
+  pub after_is : after ≡ map.insert before h.account becomes
+
+-- An event that leads to these accounts, with a body that lies in these runs already, becomes a state's: a crash at any
+-- moment of the call leaves the state before it or the one after it, if it was held, and only the journal's area changes.
+pub record Keeps (old new : Told) (journal : Journal) (area : AreaState) (own : List Run) (before after : State)
+    (result : Result Holding StoreFault) : Type 0 where
+  pub any_moment : IsHeldBy old journal area.blobs before → Becomes old new before after
+  pub memory : IsHeldBy old journal area.blobs before → IsErrOf result fault.Memory → Remains old new before
+  pub kept : IsHeldBy old journal area.blobs before → IsRestBeside own area.free area.blobs
+      → IfOk result (λ holding. IsKept new holding after)
+  pub touches : Touches journal.area old new
+
+-- the bytes that an event's record takes in the journal
+abbrev pub record_room : AccountEvent → List Run → ℕ
+record_room h runs = length (spelling (record_of h runs)) + 5
+
+-- the journal grows by so many bytes, unless it would get too long
+pub record Lengthens (journal : Journal) (room : ℕ) (result : Result Holding StoreFault) : Type 0 where
+  pub longer : IfOk result (λ holding. holding.journal.length ≡ journal.length + room)
+  pub within : OnOk result (journal.length + room ≤ 2 ^ 62)
+  pub end : (length : ℕ) → IsErrOf result (fault.End length) → (length ≡ journal.length) × (2 ^ 62 < length + room)
+  pub no_other : IfErr result
+      (λ why. (why ≡ fault.Disk) ⊎ ((why ≡ fault.Memory) ⊎ (why ≡ fault.End journal.length)))
