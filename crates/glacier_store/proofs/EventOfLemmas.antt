@@ -1,6 +1,6 @@
 -- What an event that fits makes of the accounts, of the blobs and of the free blocks.
 use Rattle.std.specs.FinMap as map
-use Rattle.std.proofs.Common.{◌≡◌, ℕ, ◌<◌, Bool, true, false, ◌&&◌, not, List, [], ◌∷◌, Option, Some, None, refl, sym, ◌∙◌, ap, subst}
+use Rattle.std.proofs.Common.{◌≡◌, ℕ, ◌<◌, ◌≤◌, Bool, true, false, cond, ◌&&◌, not, List, [], ◌∷◌, Option, Some, None, refl, sym, ◌∙◌, ap, subst, arith}
 use Rattle.std.specs.Prelude.{IsSome, is_some}
 use Rattle.glacier_bodies.specs.BlobAreas.{AreaState, IsOpen, with_blob, without_blob}
 use Rattle.glacier_bodies.specs.Stands.{Layouts, at_blob}
@@ -8,11 +8,15 @@ use Rattle.glacier_bodies.proofs.NameLemmas.{blob_after, blob_without}
 use Rattle.glacier_extents.specs.declared.run.Run.{Run}
 use Rattle.glacier_extents.specs.Runs.{block_count, has_block}
 use Rattle.glacier_vault.specs.declared.event.Event.{Event}
+use Rattle.glacier_vault.specs.declared.state.AccountState.{AccountState}
 use Rattle.glacier_replay.specs.Accounts.{Accounts, account_in}
 use Rattle.glacier_replay.specs.Changes.{AccountEvent, State, accounts_after, after_account_event, blobs_after, body_in, change_in, leaf_count, new_blob, with_new, without_blobs}
 use Rattle.glacier_replay.specs.Made.{BlocksFit, EventFits, Holdings, IsRest, IsSettled, after_event}
 use Rattle.glacier_replay.specs.Replayed.{Replay}
+use Rattle.glacier_replay.proofs.BlobMaps.{account_is, is_account}
+use Rattle.glacier_replay.proofs.CounterLemmas.{counts, of_replayed}
 use Rattle.glacier_replay.proofs.RestLemmas.{apart_with, apart_without, rest_with}
+use Rattle.glacier_replay.proofs.SettledLemmas.{account_after}
 use Rattle.glacier_store.specs.Held.{IsRestBeside}
 use Rattle.glacier_store.specs.HoldingCalls.{IsEventOf}
 
@@ -95,3 +99,21 @@ settled_without accounts layouts account (number ∷ numbers) settled = settled_
   apart = apart_without layouts account number settled.apart;
   drawn = λ a n own there. settled.drawn a n own (blob_without layouts account a number n own there).0;
 })
+
+-- and where an account goes on by an event
+pub settled_on : (before after : Accounts) (h : AccountEvent) (freed : List ℕ) (layouts : Layouts) → IsEventOf before after h freed
+    → IsSettled (record { accounts = before; layouts = layouts }) → IsSettled (record { accounts = after; layouts = layouts })
+settled_on before after h freed layouts event settled = record {
+  apart = settled.apart;
+  drawn = λ a n own there. subst (λ (s : AccountState). n < s.counter) (sym (ap (λ (all : Accounts). account_in all a) event.after_is ∙ account_after before h.account event.becomes a))
+      (at a n (settled.drawn a n own there) (is_account h.account a) refl);
+}
+  where
+    stays : (account_in before h.account).counter ≤ event.becomes.counter
+    stays = (counts (account_in before h.account) h.moment (event.becomes, freed) h.event (of_replayed (account_in before h.account) h.moment h.event (event.becomes, freed) event.change).1).stays
+
+    at : (a : List ℕ) (n : ℕ) → n < (account_in before a).counter → (b : Bool) → is_account h.account a ≡ b → n < (cond b event.becomes (account_in before a)).counter
+    at a n low true is =
+        let same : (account_in before a).counter ≡ (account_in before h.account).counter = ap (λ (k : List ℕ). (account_in before k).counter) (account_is h.account a is) in
+        omega (arith, low, same, stays)
+    at a n low false is = low

@@ -21,7 +21,7 @@ use Rattle.glacier_replay.proofs.StateLemmas.{state_after}
 use Rattle.glacier_store.specs.Held.{Becomes, IsHeldBy, Remains}
 
 -- a list stands in another area than the blobs
-picks_blobs : (bytes : List ℕ) (area : Area) → Picks bytes area → Blobs ≢ area
+pub picks_blobs : (bytes : List ℕ) (area : Area) → Picks bytes area → Blobs ≢ area
 picks_blobs [] area none = absurd none
 picks_blobs (b ∷ rest) area is = λ blobs. not_blobs (b == 0) (blobs ∙ is)
   where
@@ -57,19 +57,20 @@ only_held reads new journal payloads layouts state only listed is = record {
   state_is = λ i left. subst (λ (j : Image). IsStateOf payloads layouts (j Blobs) state) (sym (only i left)) is;
 }
 
+-- the runs of the blobs after an event
+abbrev pub layouts_after : State → Layouts → AccountEvent → List Run → Layouts
+layouts_after state layouts h runs = (after_event (record { accounts = state.accounts; layouts = layouts }) h.account h.moment h.event runs).layouts
+
 module _ (old new : Told) (journal : Journal) (layouts : Layouts) (state : State) (h : AccountEvent) (runs : List Run) (payload : List ℕ) (law : Lawful old)
     (spells : Spells payload (record_of h runs)) (lawful : IsLawful (account_in state.accounts h.account))
     (fits : EventFits (record { accounts = state.accounts; layouts = layouts }) h.account h.moment h.event runs)
     (body_is : IsBodyOf h.event h.body) (stored : Holds runs h.body (old.reads Blobs)) where
-  abbrev pub layouts_after : Layouts
-  layouts_after = (after_event (record { accounts = state.accounts; layouts = layouts }) h.account h.moment h.event runs).layouts
-
   module _ (held : IsHeldBy old journal layouts state) where
     elsewhere : Blobs ≢ journal.area
     elsewhere = picks_blobs (old.reads Lead) journal.area (held.listed old.reads law.reads_left).picks
 
     -- what the disk reads has the bytes of the state after the event
-    state_now : IsStateOf (held.payloads ++ payload ∷ []) layouts_after (old.reads Blobs) (after_account_event state h)
+    state_now : IsStateOf (held.payloads ++ payload ∷ []) (layouts_after state layouts h runs) (old.reads Blobs) (after_account_event state h)
     state_now = state_after held.payloads payload layouts (old.reads Blobs) state h runs lawful (held.state_is old.reads law.reads_left) spells fits body_is stored
 
     still : (i : Image) → StillLists old.leaves journal.area journal.area held.payloads journal.length i → Stands i state
@@ -77,8 +78,8 @@ module _ (old new : Told) (journal : Journal) (layouts : Layouts) (state : State
         (subst (λ (content : List ℕ). IsStateOf held.payloads layouts content state) (sym (lists.others Blobs elsewhere)) (held.state_is lists.from lists.was))
 
     now : (i : Image) → NowLists old.reads journal.area journal.area (held.payloads ++ payload ∷ []) (journal.length + (length payload + 5)) i → Stands i (after_account_event state h)
-    now i lists = listed_stands i journal.area (held.payloads ++ payload ∷ []) (journal.length + (length payload + 5)) layouts_after (after_account_event state h) lists.listed
-        (subst (λ (content : List ℕ). IsStateOf (held.payloads ++ payload ∷ []) layouts_after content (after_account_event state h)) (sym (lists.others Blobs elsewhere)) state_now)
+    now i lists = listed_stands i journal.area (held.payloads ++ payload ∷ []) (journal.length + (length payload + 5)) (layouts_after state layouts h runs) (after_account_event state h) lists.listed
+        (subst (λ (content : List ℕ). IsStateOf (held.payloads ++ payload ∷ []) (layouts_after state layouts h runs) content (after_account_event state h)) (sym (lists.others Blobs elsewhere)) state_now)
 
     -- a crash leaves the state before the event or the one after it
     pub becomes : Appends journal.area journal.length payload old new → Becomes old new state (after_account_event state h)
@@ -87,6 +88,6 @@ module _ (old new : Told) (journal : Journal) (layouts : Layouts) (state : State
         (λ (lists : NowLists old.reads journal.area journal.area (held.payloads ++ payload ∷ []) (journal.length + (length payload + 5)) i). inr (now i lists)))
 
     -- and once it is acknowledged, the one after it
-    pub held_on : (next : Journal) → IsDurable old new journal.area next.area (held.payloads ++ payload ∷ []) next.length → IsHeldBy new next layouts_after (after_account_event state h)
-    held_on next durable = only_held new.reads new next (held.payloads ++ payload ∷ []) layouts_after (after_account_event state h) durable.only durable.now.listed
-        (subst (λ (content : List ℕ). IsStateOf (held.payloads ++ payload ∷ []) layouts_after content (after_account_event state h)) (sym (durable.now.others Blobs elsewhere)) state_now)
+    pub held_on : (next : Journal) → IsDurable old new journal.area next.area (held.payloads ++ payload ∷ []) next.length → IsHeldBy new next (layouts_after state layouts h runs) (after_account_event state h)
+    held_on next durable = only_held new.reads new next (held.payloads ++ payload ∷ []) (layouts_after state layouts h runs) (after_account_event state h) durable.only durable.now.listed
+        (subst (λ (content : List ℕ). IsStateOf (held.payloads ++ payload ∷ []) (layouts_after state layouts h runs) content (after_account_event state h)) (sym (durable.now.others Blobs elsewhere)) state_now)

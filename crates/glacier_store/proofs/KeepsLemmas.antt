@@ -44,7 +44,7 @@ module _ (old new : Told) (journal : Journal) (area : AreaState) (own : List Run
   fits = event_fits before afterwards h freed event area own opened count
 
   its_layouts : (done : Layouts) → done ≡ without_blobs named.blobs h.account freed
-      → done ≡ layouts_after old new journal area.blobs before h own payload law spells event.lawful fits body_is stored
+      → done ≡ layouts_after before area.blobs h own
   its_layouts done is = is ∙ ap (λ (m : Layouts). without_blobs m h.account freed) named_is ∙ sym (layouts_are before afterwards h freed event area.blobs own)
 
   -- the record was appended, or not

@@ -11,3 +11,4 @@ pub mod RecoverLemmas
 pub mod ReplayedLemmas
 pub mod RoomLemmas
 pub mod StandsLemmas
+pub mod StreamLemmas

@@ -1,26 +1,33 @@
 -- What opening a holding answers, and what making one does.
 use Rattle.std.specs.FinMap as map
-use Rattle.std.proofs.Common.{◌≡◌, ◌⊎◌, inl, inr, ⊎_elim, ℕ, [], Ok, Err, ◌∙◌, sym, ap, subst}
-use Rattle.glacier_bodies.specs.BlobAreas.{AreaState}
+use Rattle.std.proofs.Common.{◌≡◌, ◌⊎◌, inl, inr, ⊎_elim, ℕ, ◌<◌, true, List, [], Ok, Err, ◌∙◌, sym, ap, subst}
+use Rattle.std.specs.Prelude.{◌↔◌}
 use Rattle.glacier_bodies.specs.Stands.{Layouts}
 use Rattle.glacier_disk.specs.declared.area.Area.{Area}
 use Rattle.glacier_disk.specs.declared.area.Area.TheVariants.{Blobs}
 use Rattle.glacier_disk.specs.Image.{Image, Only}
 use Rattle.glacier_disk.specs.Moments.{Looks}
 use Rattle.glacier_disk.specs.Told.{Told}
+use Rattle.glacier_extents.specs.declared.run.Run.{Run}
+use Rattle.glacier_extents.specs.FreeRuns.{blocks}
+use Rattle.glacier_extents.specs.Runs.{has_block}
 use Rattle.glacier_journal.specs.Breaks.{Breaks}
 use Rattle.glacier_journal.specs.Listed.{Listed, Payloads}
 use Rattle.glacier_journal.specs.declared.fault.JournalFault.{JournalFault}
 use Rattle.glacier_journal.specs.declared.fault.JournalFault.TheVariants as journal
+use Rattle.glacier_journal.specs.declared.journal.Journal.{Journal}
 use Rattle.glacier_journal.proofs.OneList.{breaks_none, one_list}
 use Rattle.glacier_replay.specs.Accounts.{Accounts}
 use Rattle.glacier_replay.specs.Changes.{State}
-use Rattle.glacier_replay.specs.Made.{Holdings, IsRest, Makes, nothing}
+use Rattle.glacier_replay.specs.Made.{Holdings, IsRest, IsSettled, Makes, nothing}
 use Rattle.glacier_replay.specs.Standing.{IsStateOf, Stands}
 use Rattle.glacier_replay.proofs.MadeLemmas.{bad_makes_none, leads_one}
+use Rattle.glacier_replay.proofs.RestLemmas.{rest_empty}
+use Rattle.glacier_replay.proofs.SettledLemmas.{nothing_settled}
+use Rattle.glacier_replay.proofs.ReadStates.{none_kept}
 use Rattle.glacier_store.specs.Faults.{store_fault}
-use Rattle.glacier_store.specs.Held.{IsKept, ListsBadRecord, Refuses}
-use Rattle.glacier_store.specs.HoldingCalls.{Recovers}
+use Rattle.glacier_store.specs.Held.{IsHeldBy, IsKept, ListsBadRecord, Refuses}
+use Rattle.glacier_store.specs.HoldingCalls.{Recovers, no_state}
 use Rattle.glacier_store.specs.declared.fault.StoreFault.{StoreFault}
 use Rattle.glacier_store.specs.declared.fault.StoreFault.TheVariants as store
 use Rattle.glacier_store.specs.declared.holding.Holding.{Holding}
@@ -102,3 +109,20 @@ module _ (old new : Told) (looks : Looks old new) where
       subst (λ (w : StoreFault). Recovers old new (Err w)) (sym (is ∙ ap store_fault e.2))
       (unread e.0 e.1 (inl (breaks e.0 e.1 e.2)))))
       cause
+
+-- a new list holds the state of no account
+pub new_held : (new : Told) (found : Journal) (layouts : Layouts) → Only new.reads new.leaves → Listed new.reads found.area [] found.length → layouts ≡ map.empty
+    → IsHeldBy new found layouts no_state
+new_held new found layouts only listed none =
+    only_held new.reads new found [] layouts no_state only listed
+    (subst (λ (l : Layouts). IsStateOf [] l (new.reads Blobs) no_state) (sym none) (none_kept (new.reads Blobs)))
+
+-- and all blocks are free
+pub new_rest : (free : List Run) (layouts : Layouts) → ((b : ℕ) → (has_block free b ≡ true) ↔ (b < blocks)) → layouts ≡ map.empty → IsRest free layouts
+new_rest free layouts all none = subst (λ (l : Layouts). IsRest free l) (sym none) (rest_empty free all)
+
+-- and what is held is settled
+pub new_settled : (accounts : Accounts) (layouts : Layouts) → accounts ≡ map.empty → layouts ≡ map.empty → IsSettled (record { accounts = accounts; layouts = layouts })
+new_settled accounts layouts no_account no_blob =
+    subst (λ (a : Accounts). IsSettled (record { accounts = a; layouts = layouts })) (sym no_account)
+    (subst (λ (l : Layouts). IsSettled (record { accounts = map.empty; layouts = l })) (sym no_blob) nothing_settled)

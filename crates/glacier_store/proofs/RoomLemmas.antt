@@ -1,18 +1,27 @@
 -- How long the record of an event is, and which runs have room in it.
-use Rattle.std.proofs.Common.{◌≡◌, ◌≤◌, ◌<◌, ℕ, ◌+◌, ◌*◌, List, [], ◌∷◌, ◌++◌, length, flat_map, refl, ap, arith, length-append}
-use Rattle.std.specs.Prelude.{◌^◌, Option, Some, None, IsSome}
+use Rattle.std.proofs.Common.{◌≡◌, ◌≤◌, ◌<◌, ℕ, ◌+◌, ◌*◌, List, [], ◌∷◌, ◌++◌, length, flat_map, Bool, true, false, cond, refl, sym, ap, subst, arith, length-append}
+use Rattle.std.specs.Prelude.{◌^◌, Option, Some, None, IsSome, Result, Ok, Err, nat_lt}
 use Rattle.std.specs.List.{AllByRecursion}
 use Rattle.std.proofs.lemmas.List.Concat.{flat_map-cons}
+use Rattle.std.proofs.lemmas.Bool.Decides.{nat_tests}
 use Rattle.glacier_extents.specs.declared.run.Run.{Run}
 use Rattle.glacier_extents.specs.Runs.{AreDistinct, block_count}
+use Rattle.glacier_policy.specs.Policies.{json_of, policy_at, policy_of}
+use Rattle.glacier_policy.specs.declared.policy.Policy.{Policy}
+use Rattle.glacier_policy.specs.declared.policy.PolicyFault.{PolicyFault}
+use Rattle.glacier_policy.specs.declared.policy.PolicyFault.TheVariants.{TooLong}
 use Rattle.glacier_records.specs.EventFields.{event_fields, EventFits, numbered_fields}
 use Rattle.glacier_records.specs.Fields.{account_field, description_field, digest_field, flag_field, index_field, leaves_field, moment_field, name_field, number_field, run_field, runs_field, text_field, tier_field}
 use Rattle.glacier_records.specs.Room.{AreFull, EventHasRoom}
 use Rattle.glacier_records.specs.Spells.{head, Spells}
+use Rattle.glacier_treehash.specs.Leaves.{leaves_of}
 use Rattle.glacier_vault.specs.declared.event.Event.{Event}
 use Rattle.glacier_vault.specs.declared.event.Event.TheVariants as events
-use Rattle.glacier_replay.specs.Changes.{AccountEvent, body_in, leaf_count}
+use Rattle.glacier_vault.specs.declared.state.AccountState.{AccountState}
+use Rattle.glacier_replay.specs.Changes.{AccountEvent, IsBodyOf, body_in, leaf_count}
 use Rattle.glacier_replay.specs.Made.{record_of}
+use Rattle.glacier_replay.specs.Replayed.{after_event, policy_or_none}
+use Rattle.glacier_replay.proofs.CounterLemmas.{of_there}
 
 -- the bytes of digests, and of runs
 length-digests : (leaves : List (List ℕ)) → AllByRecursion digest_field.Fits leaves → length (flat_map digest_field.spell leaves) ≡ 32 * length leaves
@@ -158,3 +167,35 @@ body_room high (events.AbortLock name) runs n some distinct count few small = cc
 -- one without a body has no leaf
 pub no_leaf : (e : Event) → body_in e ≡ None → leaf_count e ≡ 0
 no_leaf e none = ap (λ (r : Option (ℕ × List (List ℕ))). elim r as (λ _. ℕ) [ None ↦ 0 | Some told ↦ length told.1 ]) none
+
+-- a policy that is one is short
+short_policy : (text : List ℕ) (policy : Policy) → policy_or_none text ≡ Some policy → length text < 2 ^ 16
+unfolding policy_of
+short_policy text policy e = at (nat_lt 20_480 (length text)) refl e
+  where
+    at : (b : Bool) → nat_lt 20_480 (length text) ≡ b
+        → (elim (cond {A = Result Policy PolicyFault} b (Err (TooLong (length text))) (policy_at (json_of text))) as (λ _. Option Policy) [ Ok found ↦ Some found | Err fault ↦ None ]) ≡ Some policy
+        → length text < 2 ^ 16
+    at true is no = cc
+    at false is yes = grind (arith, nat_tests)
+
+-- an event without a body that fits has room
+pub plain_room : (a : AccountState) (m : ℕ) (e : Event) (p : AccountState × List ℕ) → after_event a m e ≡ Some p → body_in e ≡ None → EventHasRoom e []
+plain_room a m (events.InitiateLock name policy) p fits none = (of_there (λ _. length policy < 2 ^ 16) p (policy_or_none policy) _ fits (λ read is next. short_policy policy read is), refl)
+plain_room a m events.Pass p fits none = refl
+plain_room a m (events.CreateVault name) p fits none = refl
+plain_room a m (events.DeleteVault name) p fits none = refl
+plain_room a m (events.Upload name size description leaves) p fits none = cc
+plain_room a m (events.DeleteArchive name archive) p fits none = refl
+plain_room a m (events.BeginUpload name part_size description) p fits none = refl
+plain_room a m (events.Part name upload index size leaves) p fits none = cc
+plain_room a m (events.Complete name upload) p fits none = refl
+plain_room a m (events.Abort name upload) p fits none = refl
+plain_room a m (events.BeginRetrieval name archive first end tier ready description) p fits none = refl
+plain_room a m (events.BeginInventory name csv tier ready description) p fits none = refl
+plain_room a m (events.CompleteLock name) p fits none = refl
+plain_room a m (events.AbortLock name) p fits none = refl
+
+-- and comes with no bytes
+pub no_body : (e : Event) → body_in e ≡ None → IsBodyOf e []
+no_body e none = subst (λ (r : Option (ℕ × List (List ℕ))). elim r as (λ _. Type 0) [ None ↦ ([] ≡ []) | Some told ↦ (told.0 ≡ 0) × (told.1 ≡ leaves_of []) ]) (sym none) refl

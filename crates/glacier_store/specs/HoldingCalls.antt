@@ -2,7 +2,9 @@
 use Rattle.std.specs.Prelude.{◌≡◌, ◌⊎◌, ℕ, ◌+◌, ◌<◌, ◌≤◌, ◌^◌, List, Some, None, Result, IfOk, OnOk, IfErr, IsErrOf, length}
 use Rattle.std.specs.FinMap as map
 use Rattle.glacier_bodies.specs.BlobAreas.{AreaState}
+use Rattle.glacier_bodies.specs.Stands.{Layouts}
 use Rattle.glacier_disk.specs.declared.area.Area.{Area}
+use Rattle.glacier_disk.specs.declared.area.Area.TheVariants.{Blobs}
 use Rattle.glacier_disk.specs.Moments.{Looks}
 use Rattle.glacier_disk.specs.Told.{Told}
 use Rattle.glacier_disk.specs.Touches.{Touches}
@@ -79,3 +81,15 @@ pub record Lengthens (journal : Journal) (room : ℕ) (result : Result Holding S
   pub end : (length : ℕ) → IsErrOf result (fault.End length) → (length ≡ journal.length) × (2 ^ 62 < length + room)
   pub no_other : IfErr result
       (λ why. (why ≡ fault.Disk) ⊎ ((why ≡ fault.Memory) ⊎ (why ≡ fault.End journal.length)))
+
+-- only the free blocks change
+pub record OnlyFree (old new : Holding) : Type 0 where
+  pub accounts : new.accounts ≡ old.accounts
+  pub journal : new.journal ≡ old.journal
+  pub blobs : new.area.blobs ≡ old.area.blobs
+
+-- whatever state was held is held, and stood at each moment since; nothing but Blobs is written
+pub record KeepsHeld (old new : Told) (journal : Journal) (layouts : Layouts) : Type 0 where
+  pub held : (state : State) → IsHeldBy old journal layouts state → IsHeldBy new journal layouts state
+  pub remains : (state : State) → IsHeldBy old journal layouts state → Remains old new state
+  pub touches : Touches Blobs old new

@@ -14,9 +14,10 @@ ghost use Rattle.glacier_records.specs.Spells.{Spells};
 ghost use Rattle.glacier_replay.specs.Accounts.{account_in};
 ghost use Rattle.glacier_replay.specs.Changes.{AccountEvent, IsBodyOf, State, after_account_event, body_in, leaf_count, without_blobs};
 ghost use Rattle.glacier_replay.specs.Made.{IsRest, record_of};
+ghost use Rattle.glacier_replay.specs.Replayed.{replayed};
+ghost use Rattle.glacier_vault.specs.declared.state.AccountState.{AccountState};
 ghost use Rattle.glacier_store.specs.Calls.{StoreCall};
 ghost use Rattle.glacier_store.specs.HoldingCalls.{IsEventOf, Keeps, Lengthens, event_at, record_room};
-ghost use Rattle.glacier_store.specs.declared.fault.StoreFault.TheVariants.{Memory as NoMemory};
 
 use crate::{Holding, StoreFault};
 use glacier_base::{Account, List, Memory, Moment};
@@ -82,7 +83,7 @@ fn append<D: Disk>(
         done.journal.area (payloads ++ frame.now ∷ []) done.journal.length) }
 
     ensures lengthens { Lengthens holding.journal (length frame.now + 5) result }
-    ensures no_memory { IsErrOf result NoMemory → ⊥ }
+    ensures no_memory { IsErrOf result StoreFault.Memory → ⊥ }
     ensures call { StoreCall (D.told disk.old) (D.told disk.new) result }
     ensures alone { D.by_disk disk.old disk.new }
 {
@@ -121,7 +122,7 @@ impl Holding {
     ) -> Result<Holding, StoreFault>
         requires opened { (D.told disk.old).opened ≡ true }
         requires plain { body_in event.now ≡ None }
-        requires room { EventHasRoom event.now [] }
+        requires fits { (a : AccountState) × IsSome (replayed a m event.now) }
 
         ensures accounts { IfOk result (λ done. done.accounts ≡ self.accounts) }
         ensures keeps { IsTrue D.tells → (before : State) →
@@ -179,6 +180,7 @@ impl Holding {
             mut area,
             journal,
         } = self;
+        let _ = layout.count();
         let frame = record_frame(alloc, account, m, event, layout.runs())?;
         area.name_blob(alloc, *account, number, layout)?;
         append(

@@ -6,10 +6,12 @@ mod changing;
 mod committing;
 mod fault;
 mod holding;
+pub mod holding_laws;
 mod keeping;
 pub mod laws;
 mod replaying;
 mod store;
+mod streaming;
 
 pub use accounts::Accounts;
 pub use fault::StoreFault;

@@ -1,0 +1,20 @@
+use Rattle.glacier_store.proofs.RecoverLemmas.{new_held, new_rest}
+use Rattle.glacier_store.proofs.holding.Holding.create.Goals as goal
+
+pub returns-in-Ok-clause-founds : goal.returns-in-Ok-clause-founds
+returns-in-Ok-clause-founds g c t =
+    let made = c.in-Ok.ensures.creates t in
+    let area = c.in_ok-area.area in
+    let none = c.in_ok-area.ensures.blobs in
+    record {
+      kept = record {
+        accounts = c.empty.ensures;
+        held = new_held (g.D.Disk.told c.create.new.disk) c.in-Ok.journal area.blobs made.durable (c.in-Ok.ensures.listed t) none;
+        rest = new_rest area.free area.blobs c.in_ok-area.ensures.free none;
+      };
+      made = made.made;
+      empty = made.empty;
+      not_empty = λ area size is. absurd (cc is);
+      untouched = λ full. absurd (full made.empty);
+      length = c.in-Ok.ensures.length;
+    }
