@@ -1,5 +1,5 @@
 -- What the beginning of a job leaves.
-use Rattle.std.specs.Prelude.{◌≡◌, ◌≢◌, ℕ, ◌≤◌, ◌<◌, ◌+◌, ◌%◌, Bool, true, false, cond, not, ◌||◌, List, Option, Some, None, Result, Ok, Err, IfSome, IsTrue, is_some, nat_eq, nat_lt, nat_le}
+use Rattle.std.specs.Prelude.{◌≡◌, ◌≢◌, ℕ, ◌≤◌, ◌<◌, ◌+◌, ◌%◌, Bool, true, false, cond, not, ◌||◌, List, length, Option, Some, None, Result, Ok, Err, IfSome, IsTrue, is_some, nat_eq, nat_lt, nat_le}
 use Rattle.std.specs.Cmp.{nat_cmp_total}
 use Rattle.std.specs.FinMap as map
 use Rattle.std.proofs.Common.{◌∙◌, ap, sym, refl, subst, arith, eq-eqb}
@@ -11,6 +11,7 @@ use Rattle.glacier_treehash.specs.Tree.{mib}
 use Rattle.glacier_vault.specs.Account.{counter_end}
 use Rattle.glacier_vault.specs.Due.{sooner, job_due, due_in}
 use Rattle.glacier_vault.specs.Lawful.{IsLawful, IsLawfulVault, IsLawfulArchive, IsLawfulJob, IsLawfulWork, IsDrawn}
+use Rattle.glacier_vault.specs.Lengths.{lengths, lines_length, job_record_length, snapshot_length}
 use Rattle.glacier_vault.specs.Rows.{state_after, draw_refusal, changed}
 use Rattle.glacier_vault.specs.Totals.{Weight, vault_total, total, blocks, each_upload, each_job, naming, used_in, uploads_in, jobs_in}
 use Rattle.glacier_vault.specs.declared.archive.Archive.{Archive}
@@ -27,6 +28,7 @@ use Rattle.glacier_vault.specs.declared.state.VaultState.{VaultState}
 use Rattle.glacier_vault.proofs.Fresh.{fresh}
 use Rattle.glacier_vault.proofs.KeepsLawful.{lawful-changed_at, lawful_there}
 use Rattle.glacier_vault.proofs.Later.{later_vault}
+use Rattle.glacier_vault.proofs.LengthLemmas.{length-changed_at}
 use Rattle.glacier_vault.proofs.TotalsLemmas.{total-changed_at}
 use Rattle.glacier_job.specs.Beginning.{limit_refusal, accepted_work, new_job, with_job, after_put, FitsIn, ready_at, begin_event, begin_row}
 use Rattle.glacier_job.specs.Work.{is_bad_range, is_bad_job_range, range_first, range_end, retrieval, work_of, HasOrderedRange}
@@ -120,9 +122,9 @@ module _ (counter last : ℕ) (vault : VaultState) (lawful : IsLawfulVault count
       }
 
   -- one more job weighs as much more
-  vault_total-with_job : (w : Weight) (job : Job) → vault_total w (with_job counter job vault) ≡ vault_total w vault + w.job
+  vault_total-with_job : (w : Weight) (job : Job) → vault_total w (with_job counter job vault) ≡ vault_total w vault + w.job job
   vault_total-with_job w job =
-      omega (arith, sum_by-insert nat_cmp_total (λ (job : Job). w.job) vault.jobs counter job, ap (weight (λ (job : Job). w.job)) number_free)
+      omega (arith, sum_by-insert nat_cmp_total w.job vault.jobs counter job, ap (weight w.job) number_free)
 
 -- a vault is there, and the job is lawful in it
 abbrev FitsThere : ℕ → ℕ → Job → Option VaultState → Type 0
@@ -137,7 +139,7 @@ module _ (a : AccountState) (m : ℕ) (le : a.last ≤ m) (lawful : IsLawful a) 
     pub later : IsLawfulVault a.counter m vault
     later = later_vault a.counter a.counter (omega arith) a.last m le vault right_vault
 
-    total-put : (w : Weight) (job : Job) → total w (changed_at (with_job a.counter job) a.vaults name) ≡ total w a.vaults + w.job
+    total-put : (w : Weight) (job : Job) → total w (changed_at (with_job a.counter job) a.vaults name) ≡ total w a.vaults + w.job job
     total-put w job = omega (arith, total-changed_at w a.vaults name vault there (with_job a.counter job), vault_total-with_job a.counter a.last vault right_vault w job)
 
     pub used-put : (job : Job) → a.used ≡ used_in (changed_at (with_job a.counter job) a.vaults name)
@@ -148,6 +150,12 @@ module _ (a : AccountState) (m : ℕ) (le : a.last ≤ m) (lawful : IsLawful a) 
 
     pub jobs-put : (job : Job) → a.jobs + 1 ≡ jobs_in (changed_at (with_job a.counter job) a.vaults name)
     jobs-put job = omega (arith, lawful.jobs, total-put each_job job)
+
+    -- how long the snapshot is with the job's record
+    pub length-put : (job : Job) → job.stage ≡ Waiting → (more : ℕ) → more ≡ a.length + job_record_length (length name) job → more ≡ snapshot_length (changed_at (with_job a.counter job) a.vaults name)
+    length-put job waits more is =
+        let none : lines_length (length name) job.stage ≡ 0 = ap (lines_length (length name)) waits in
+        omega (arith, is, none, lawful.length, length-changed_at a.vaults name vault there (with_job a.counter job), vault_total-with_job a.counter a.last vault right_vault (lengths (length name)) job)
 
     pub due-put : (job : Job) → job.stage ≡ Waiting → sooner a.due (job_due job) ≡ due_in (changed_at (with_job a.counter job) a.vaults name)
     due-put job waits = ap (λ d. sooner d (job_due job)) lawful.due ∙ sym (due_in-with_job a.counter job waits vault a.vaults name there)

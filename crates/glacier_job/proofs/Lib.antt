@@ -8,4 +8,5 @@ pub mod PassLawful
 pub mod PassLemmas
 pub mod PassTotals
 pub mod PassTwice
+pub mod SettledLengths
 pub mod WaitingLemmas

@@ -13,6 +13,7 @@ use Rattle.glacier_base.proofs.Changed.{from_entries-entries, get-map_values}
 use Rattle.glacier_base.proofs.Finite.{bytes_cmp-IsAntisymmetric}
 use Rattle.glacier_vault.specs.Due.{content_due, due_in}
 use Rattle.glacier_vault.specs.Lawful.{IsLawful, IsLawfulVault}
+use Rattle.glacier_vault.specs.Lengths.{snapshot_length}
 use Rattle.glacier_vault.specs.Named.{is_named, is_waiting, blobs_of}
 use Rattle.glacier_vault.specs.Totals.{Archives, used_in, uploads_in, jobs_in}
 use Rattle.glacier_vault.specs.declared.archive.Finished.{Finished}
@@ -185,4 +186,5 @@ module _ (m : ℕ) where
         uploads = (ap uploads_in lawful_same ∙ sym lawful.uploads) i;
         jobs = (ap jobs_in lawful_same ∙ sym lawful.jobs) i;
         due = (ap due_in lawful_same ∙ sym lawful.due) i;
+        length = (ap snapshot_length lawful_same ∙ sym lawful.length) i;
       }

@@ -11,7 +11,7 @@ use Rattle.glacier_vault.specs.declared.state.AccountState.{AccountState}
 use Rattle.glacier_vault.specs.declared.state.VaultState.{VaultState}
 use Rattle.glacier_vault.proofs.FreedLemmas.{times_in-append, times_in-blobs_of}
 use Rattle.glacier_job.specs.Pass.{dropped, freed, pass}
-use Rattle.glacier_job.proofs.PassTotals.{dropped_sum, total-pass}
+use Rattle.glacier_job.proofs.PassTotals.{naming_is_steady, dropped_sum, total-pass}
 
 times_in-freed : (m blob : ℕ) (vaults : List VaultState) → times_in blob (flat_map (λ vault. blobs_of (dropped m vault)) vaults) ≡ sum_by (λ vault. sum_by (naming blob).archive (dropped m vault)) vaults
 times_in-freed m blob [] = refl
@@ -25,4 +25,4 @@ times_in-freed m blob (vault ∷ vaults) =
     )
 
 pub pass-frees : (a : AccountState) (m : ℕ) → FreesJust a (pass m a) (freed m a)
-pass-frees a m blob = omega (arith, times_in-freed m blob (map.values a.vaults), total-pass m (naming blob) a.vaults, dropped_sum m (naming blob) refl (map.values a.vaults))
+pass-frees a m blob = omega (arith, times_in-freed m blob (map.values a.vaults), total-pass m (naming blob) (naming_is_steady blob) a.vaults, dropped_sum m (naming blob) (λ _. refl) (map.values a.vaults))

@@ -27,7 +27,7 @@ use Rattle.glacier_vault.proofs.KeepsLawful.{named_less}
 use Rattle.glacier_vault.proofs.Later.{weaker_there, later_vault}
 use Rattle.glacier_vault.proofs.ValuesLemmas.{list_any-values}
 use Rattle.glacier_job.specs.Pass.{outcome, stage_at, settled, has_ended, jobs_after, held_after, lock_after, lock_ends, is_past, passed, pass}
-use Rattle.glacier_job.proofs.PassTotals.{total-pass}
+use Rattle.glacier_job.proofs.PassTotals.{naming_is_steady, total-pass}
 
 none_some : {X : Type 0} (r : Option X) → is_some r ≡ true → r ≡ None → ⊥
 none_some None s e = cc
@@ -132,5 +132,6 @@ lawful-pass a m lawful le = record {
   uploads = refl;
   jobs = refl;
   due = refl;
-  blobs = named_less a a.counter m (omega arith) le lawful (map_values (passed m) a.vaults) (λ blob. omega (arith, total-pass m (naming blob) a.vaults));
+  length = refl;
+  blobs = named_less a a.counter m (omega arith) le lawful (map_values (passed m) a.vaults) (λ blob. omega (arith, total-pass m (naming blob) (naming_is_steady blob) a.vaults));
 }

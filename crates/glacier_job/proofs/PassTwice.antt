@@ -11,6 +11,7 @@ use Rattle.glacier_base.specs.Maps.{map_values}
 use Rattle.glacier_base.proofs.Changed.{get-map_values}
 use Rattle.glacier_base.proofs.Listed.{entries-map_values, entries-where_entries}
 use Rattle.glacier_vault.specs.Due.{held_due, content_due, due_in}
+use Rattle.glacier_vault.specs.Lengths.{snapshot_length}
 use Rattle.glacier_vault.specs.Named.{is_named, is_waiting}
 use Rattle.glacier_vault.specs.Totals.{Archives, used_in, uploads_in, jobs_in}
 use Rattle.glacier_vault.specs.declared.archive.Archive.{Archive}
@@ -114,7 +115,7 @@ module _ (m : ℕ) where
   pass_twice a =
       let none : pass_is_event m (pass m a) ≡ false = ap (λ es. list_any (vault_is_due m) (values_of es)) (entries-map_values nat_list_cmp_total a.vaults (passed m)) ∙ each_not_due (map.entries a.vaults) in
       let same = vaults_same m (pass m a) none kept in
-      λ i. record { last = m; counter = a.counter; vaults = same i; used = used_in (same i); uploads = uploads_in (same i); jobs = jobs_in (same i); due = due_in (same i) }
+      λ i. record { last = m; counter = a.counter; vaults = same i; used = used_in (same i); uploads = uploads_in (same i); jobs = jobs_in (same i); due = due_in (same i); length = snapshot_length (same i) }
     where
       each_keeps : (r : Option VaultState) → IfSome (option_map (passed m) r) (λ vault. vault.due ≡ content_due vault)
       each_keeps None = tt

@@ -1,7 +1,8 @@
 // The beginning of jobs.
-ghost use Rattle.std.specs.Prelude.{◌≡◌, ◌≢◌, ◌≤◌, IfOk, OnOk, OnErr};
+ghost use Rattle.std.specs.Prelude.{◌≡◌, ◌≢◌, ◌≤◌, ◌+◌, IfOk, OnOk, OnErr, length};
 ghost use Rattle.glacier_vault.specs.Account.{counter_end};
 ghost use Rattle.glacier_vault.specs.Lawful.{IsLawful};
+ghost use Rattle.glacier_vault.specs.Lengths.{job_record_length};
 ghost use Rattle.glacier_vault.specs.Rows.{answer, state_after};
 ghost use Rattle.glacier_vault.specs.declared.job.Stage.TheVariants as stages;
 ghost use Rattle.glacier_job.specs.Beginning.{delay, ready_at, limit_refusal, accepted_work, new_job, after_put, FitsIn, begin_event, begin_row};
@@ -11,8 +12,8 @@ use crate::asks::JobAsk;
 use crate::work::work_for;
 use glacier_base::{LAST_MOMENT, Memory, Moment, VaultName};
 use glacier_vault::{
-    AccountState, Change, Event, Job, Refusal, Rules, Stage, Tier, Work, job_due, refuse_draw,
-    sooner,
+    AccountState, Change, Event, Job, Refusal, Rules, Stage, Tier, Work, job_due, length_with_job,
+    name_length, refuse_draw, sooner,
 };
 use std::alloc::Global;
 
@@ -94,6 +95,18 @@ fn event_of(ask: &JobAsk, ready: Moment, work: &Work) -> Event
     }
 }
 
+/// How long the account's snapshot is with the record of a job. A sum that is no `u64` is want of
+/// memory.
+fn length_with(state: &AccountState, name: &VaultName, job: &Job) -> Result<u64, Memory>
+    ensures { IfOk result (λ more.
+        more ≡ state.now.length + job_record_length (length name.now) job.now) }
+{
+    match length_with_job(state.length, name_length(name), job) {
+        Some(length) => Ok(length),
+        None => Err(Memory),
+    }
+}
+
 /// Puts a job that waits into a vault under the account's next number, whatever the limits are.
 /// After an `Err` the state is given up.
 pub fn put_job(
@@ -114,6 +127,7 @@ pub fn put_job(
     if state.jobs == u64::MAX {
         return Err(Memory);
     }
+    let length = length_with(state, name, &job)?;
     let due = job_due(&job);
     let Some(vault) = state.vaults.get_mut(name) else {
         unreachable!();
@@ -123,6 +137,7 @@ pub fn put_job(
     state.due = sooner(state.due, due);
     state.counter += 1;
     state.jobs += 1;
+    state.length = length;
     state.last = m;
     Ok(())
 }

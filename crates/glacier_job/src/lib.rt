@@ -7,6 +7,7 @@ mod due;
 mod ending;
 mod finding;
 pub mod laws;
+mod lengths;
 mod listing;
 mod naming;
 mod outcomes;

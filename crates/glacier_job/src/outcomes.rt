@@ -1,8 +1,10 @@
 // How jobs come out.
-ghost use Rattle.std.specs.Prelude.{◌≡◌, IfOk, OnOk};
+ghost use Rattle.std.specs.Prelude.{◌≡◌, ◌+◌, IfOk, OnOk};
+ghost use Rattle.glacier_vault.specs.Lengths.{job_length};
 ghost use Rattle.glacier_vault.specs.Named.{is_done};
 ghost use Rattle.glacier_job.specs.Pass.{line_of, lines, outcome, stage_at, settled};
 
+use crate::lengths::length_with_stage;
 use glacier_base::{List, Memory, Moment, NumberMap};
 use glacier_vault::{Archive, Job, Line, Stage, Work};
 use std::alloc::{AllocError, Global};
@@ -48,21 +50,29 @@ fn outcome_of(alloc: Global, archives: &NumberMap<Archive>, work: &Work) -> Resu
     }
 }
 
-/// Settles a job that is ready.
+/// Settles a job that is ready, and answers how long the account's snapshot is with its lines, where
+/// it was so long before and the vault's name has `n` bytes. A sum that is no `u64` is want of memory.
 pub(crate) fn settle_job(
     alloc: Global,
     m: Moment,
     archives: &NumberMap<Archive>,
     job: &mut Job,
-) -> Result<(), Memory>
-    ensures { OnOk result (job.new ≡ settled m archives.now job.old) }
+    length: u64,
+    n: u64,
+) -> Result<u64, Memory>
+    ensures job { OnOk result (job.new ≡ settled m archives.now job.old) }
+    ensures length { IfOk result (λ more.
+        more + job_length n job.old ≡ length + job_length n job.new) }
 {
     if let Stage::Waiting = job.stage {
         if job.ready <= m {
-            job.stage = outcome_of(alloc, archives, &job.work)?;
+            let stage = outcome_of(alloc, archives, &job.work)?;
+            let more = length_with_stage(length, n, &stage)?;
+            job.stage = stage;
+            return Ok(more);
         }
     }
-    Ok(())
+    Ok(length)
 }
 
 /// Whether a job that is ready is done then.

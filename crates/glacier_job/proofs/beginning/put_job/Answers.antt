@@ -1,7 +1,7 @@
 use Rattle.std.proofs.Common.{sym, subst, arith}
 use Rattle.std.proofs.lemmas.Grind.{common_steps}
 use Rattle.glacier_vault.specs.Lawful.{IsLawful}
-use Rattle.glacier_job.proofs.BeginLemmas.{used-put, uploads-put, jobs-put, due-put, lawful-put}
+use Rattle.glacier_job.proofs.BeginLemmas.{used-put, uploads-put, jobs-put, due-put, length-put, lawful-put}
 use Rattle.glacier_job.proofs.beginning.put_job.Goals as goal
 
 pub returns-clause-state : goal.returns-clause-state
@@ -10,6 +10,7 @@ returns-clause-state c =
     let uploads = uploads-put c.args.state.now c.args.m c.requires.time c.requires.lawful c.args.name.now c.in-Some.vault.now (sym c.in-Some.ensures.value) c.args.job in
     let jobs = jobs-put c.args.state.now c.args.m c.requires.time c.requires.lawful c.args.name.now c.in-Some.vault.now (sym c.in-Some.ensures.value) c.args.job in
     let due = due-put c.args.state.now c.args.m c.requires.time c.requires.lawful c.args.name.now c.in-Some.vault.now (sym c.in-Some.ensures.value) c.args.job c.requires.waits in
+    let length = length-put c.args.state.now c.args.m c.requires.time c.requires.lawful c.args.name.now c.in-Some.vault.now (sym c.in-Some.ensures.value) c.args.job c.requires.waits c.in_ok-length.length c.in_ok-length.ensures in
     grind (arith, common_steps)
 
 pub returns-clause-lawful : goal.returns-clause-lawful

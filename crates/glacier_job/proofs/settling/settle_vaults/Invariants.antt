@@ -1,5 +1,6 @@
 use Rattle.std.proofs.Common.{◌≡◌, drop}
 use Rattle.glacier_base.specs.Maps.{changed_at_each}
+use Rattle.glacier_vault.specs.Lengths.{snapshot_length}
 use Rattle.glacier_job.specs.Pass.{passed}
 use Rattle.glacier_job.proofs.settling.settle_vaults.Given as goal
 
@@ -12,4 +13,5 @@ invariant-loop-name l = record {
   jobs : l.state.jobs ≡ l.fn.state.jobs;
   due : l.state.due ≡ l.fn.state.due;
   vaults : changed_at_each (passed l.m) (drop l.name-index l.name-items) l.state.vaults ≡ changed_at_each (passed l.m) l.name-items l.fn.state.vaults;
+  length : l.state.length ≡ snapshot_length l.state.vaults;
 }
