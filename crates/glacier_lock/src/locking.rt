@@ -58,7 +58,7 @@ pub fn initiate(
         name: *vault,
         policy: Text::of(alloc, text)?,
     };
-    put_lock(state, m, vault, kept, policy);
+    put_lock(state, m, vault, kept, policy)?;
     Ok(Ok(Change::of(alloc, event)))
 }
 
