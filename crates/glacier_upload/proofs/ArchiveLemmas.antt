@@ -1,12 +1,13 @@
 -- What a new archive of one new blob leaves.
-use Rattle.std.specs.Prelude.{◌≡◌, ℕ, ◌≤◌, ◌+◌, List, [], ◌∷◌, Some, None, nat_eq, count_by}
+use Rattle.std.specs.Prelude.{◌≡◌, ℕ, ◌≤◌, ◌+◌, List, [], ◌∷◌, length, Some, None, nat_eq, count_by}
 use Rattle.std.specs.Cmp.{nat_cmp_total}
 use Rattle.std.specs.FinMap as map
-use Rattle.std.proofs.Common.{◌∙◌, ap, sym, refl, arith}
+use Rattle.std.proofs.Common.{◌∙◌, ap, sym, refl, subst, arith}
 use Rattle.glacier_base.specs.Maps.{changed_at}
 use Rattle.glacier_base.proofs.Sums.{weight, sum_by-insert}
 use Rattle.glacier_vault.specs.Due.{due_in}
 use Rattle.glacier_vault.specs.Lawful.{IsLawful, IsLawfulVault, IsLawfulArchive}
+use Rattle.glacier_vault.specs.Lengths.{lengths, archive_length, snapshot_length}
 use Rattle.glacier_vault.specs.Rows.{in_vault, drawn}
 use Rattle.glacier_vault.specs.Totals.{Archives, Weight, total, blocks, each_upload, each_job, need, naming, used_in, uploads_in, jobs_in, bytes_in}
 use Rattle.glacier_vault.specs.declared.archive.Archive.{Archive}
@@ -16,6 +17,7 @@ use Rattle.glacier_vault.proofs.Fresh.{fresh, total-new_archive, lawful-new_arch
 use Rattle.glacier_vault.proofs.DueLemmas.{due_in-same}
 use Rattle.glacier_vault.proofs.KeepsLawful.{lawful-changed_at, lawful_there}
 use Rattle.glacier_vault.proofs.Later.{later_vault}
+use Rattle.glacier_vault.proofs.LengthLemmas.{length-changed_at}
 use Rattle.glacier_vault.proofs.TotalsLemmas.{total-changed_at}
 use Rattle.glacier_upload.specs.Single.{with_archive}
 use Rattle.glacier_upload.proofs.SameText.{hit, count-alone, hit_none, hit-le-one}
@@ -51,6 +53,11 @@ module _ (a : AccountState) (m : ℕ) (le : a.last ≤ m) (lawful : IsLawful a) 
 
     pub due-with_archive : a.due ≡ due_in (changed_at (with_archive a.counter archive) a.vaults name)
     due-with_archive = lawful.due ∙ sym (due_in-same a.vaults name vault there (with_archive a.counter archive) refl)
+
+    pub length-with_archive : (n : ℕ) → n ≡ length name → (long : ℕ) → long ≡ a.length + archive_length n archive → long ≡ snapshot_length (changed_at (with_archive a.counter archive) a.vaults name)
+    length-with_archive n is long e =
+        let here = subst (λ n. long ≡ a.length + archive_length n archive) is e in
+        omega (arith, here, lawful.length, length-changed_at a.vaults name vault there (with_archive a.counter archive), total-new_archive a.counter a.last vault right_vault archive (lengths (length name)))
 
     pub lawful-with_archive : IsLawfulArchive m archive → archive.blobs ≡ a.counter ∷ [] → IsLawful (in_vault (drawn a) m name (with_archive a.counter archive))
     lawful-with_archive right blob_is = lawful-changed_at a (a.counter + 1) m (omega arith) le lawful name vault there (with_archive a.counter archive)

@@ -14,7 +14,7 @@ use Rattle.glacier_vault.proofs.SoonestLemmas.{soonest-missing}
 use Rattle.glacier_upload.specs.Completion.{finished_as, with_completed}
 
 -- an open upload isn't finished
-not_finished : (counter last : ℕ) (vault : VaultState) → IsLawfulVault counter last vault → (number : ℕ) (upload : Upload) → map.get vault.uploads number ≡ Some upload → map.get vault.finished number ≡ None
+pub not_finished : (counter last : ℕ) (vault : VaultState) → IsLawfulVault counter last vault → (number : ℕ) (upload : Upload) → map.get vault.uploads number ≡ Some upload → map.get vault.finished number ≡ None
 not_finished counter last vault lawful number upload is_open = at (map.get vault.finished number) refl
   where
     at : (r : Option Finished) → map.get vault.finished number ≡ r → map.get vault.finished number ≡ None

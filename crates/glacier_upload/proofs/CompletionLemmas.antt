@@ -8,8 +8,10 @@ use Rattle.std.proofs.lemmas.List.{length-map}
 use Rattle.std.proofs.lemmas.List.Sums.{sum_by-cons}
 use Rattle.glacier_base.specs.Maps.{changed_at}
 use Rattle.glacier_base.proofs.LookUps.{if_some-insert}
+use Rattle.glacier_base.proofs.Sums.{weight, sum_by-insert}
 use Rattle.glacier_vault.specs.Due.{sooner, finished_due, due_in}
 use Rattle.glacier_vault.specs.Lawful.{IsLawful, IsLawfulVault, IsLawfulArchive, IsLawfulUpload, IsDrawn}
+use Rattle.glacier_vault.specs.Lengths.{lengths, archive_length, finished_length, snapshot_length}
 use Rattle.glacier_vault.specs.Rows.{in_vault, drawn}
 use Rattle.glacier_vault.specs.Totals.{Weight, vault_total, total, upload_total, blocks, each_upload, each_job, naming, used_in, uploads_in, jobs_in}
 use Rattle.glacier_vault.specs.declared.archive.Archive.{Archive}
@@ -22,11 +24,12 @@ use Rattle.glacier_vault.proofs.DueLemmas.{due_in-sooner}
 use Rattle.glacier_vault.proofs.Fresh.{total-new_archive, lawful-new_archive}
 use Rattle.glacier_vault.proofs.KeepsLawful.{lawful-changed_at, lawful_there}
 use Rattle.glacier_vault.proofs.Later.{later_vault}
+use Rattle.glacier_vault.proofs.LengthLemmas.{length-changed_at}
 use Rattle.glacier_vault.proofs.TotalsLemmas.{sum_by-none, total-changed_at, total-remove}
-use Rattle.glacier_upload.specs.Completion.{covered, has_gap, whole_archive, finished_as, with_completed, IsWhole}
+use Rattle.glacier_upload.specs.Completion.{covered, has_gap, whole_archive, finished_as, with_completed, open_length, IsWhole}
 use Rattle.glacier_upload.specs.Uploads.{part_blobs, without_upload}
 use Rattle.glacier_upload.proofs.CoverLemmas.{blocks_covered, leaves_covered, some_parts}
-use Rattle.glacier_upload.proofs.CompletionDue.{content_due-completed, vault_due-completed}
+use Rattle.glacier_upload.proofs.CompletionDue.{not_finished, content_due-completed, vault_due-completed}
 use Rattle.glacier_upload.proofs.UploadMaps.{lawful-without_upload, total-without_upload, upload_there}
 
 -- how often a blob stands among those of parts
@@ -74,8 +77,16 @@ module _ (counter m : ℕ) (vault : VaultState) (lawful : IsLawfulVault counter 
       gone n true t s = refl
       gone n false t s = lawful.open_or_finished n s
 
-  pub vault-completed : (w : Weight) → vault_total w (with_completed number counter archive vault) + upload_total w upload ≡ vault_total w vault + w.archive archive
-  vault-completed w = omega (arith, total-new_archive counter m answered right_answered archive w, total-without_upload counter m vault lawful number upload is_open w)
+  pub vault-completed : (w : Weight) → vault_total w (with_completed number counter archive vault) + upload_total w upload ≡ vault_total w vault + w.archive archive + w.finished finished
+  vault-completed w =
+      let none = not_finished counter m vault lawful number upload is_open in
+      omega (
+        arith,
+        total-new_archive counter m answered right_answered archive w,
+        total-without_upload counter m vault lawful number upload is_open w,
+        sum_by-insert nat_cmp_total w.finished vault.finished number finished,
+        ap (weight w.finished) none,
+      )
 
   pub lawful_vault-completed : IsLawfulArchive m archive → IsLawfulVault (counter + 1) m (with_completed number counter archive vault)
   lawful_vault-completed right = lawful-new_archive counter m answered right_answered archive right
@@ -95,12 +106,15 @@ module _ (a : AccountState) (lawful : IsLawful a) (name : List ℕ) (vault : Vau
     abbrev completed : VaultState → VaultState
     completed = with_completed number a.counter (whole_archive m upload)
 
-    balance : (w : Weight) → vault_total w (completed vault) + upload_total w upload ≡ vault_total w vault + w.archive (whole_archive m upload)
+    abbrev finished_then : Finished
+    finished_then = finished_as a.counter (whole_archive m upload)
+
+    balance : (w : Weight) → vault_total w (completed vault) + upload_total w upload ≡ vault_total w vault + w.archive (whole_archive m upload) + w.finished finished_then
     balance w = vault-completed a.counter (a.last + m) vault (later_vault a.counter a.counter (omega arith) a.last (a.last + m) (omega arith) vault right_vault)
         number upload is_open (whole_archive m upload) (omega arith) w
 
     -- what a completion adds to each total, and takes from it
-    pub total-completed : (w : Weight) → total w (changed_at completed a.vaults name) + upload_total w upload ≡ total w a.vaults + w.archive (whole_archive m upload)
+    pub total-completed : (w : Weight) → total w (changed_at completed a.vaults name) + upload_total w upload ≡ total w a.vaults + w.archive (whole_archive m upload) + w.finished finished_then
     total-completed w = omega (arith, balance w, total-changed_at w a.vaults name vault there completed, total-remove w a.vaults name vault there)
 
     pub uploads-completed : a.uploads - 1 ≡ uploads_in (changed_at completed a.vaults name)
@@ -108,6 +122,9 @@ module _ (a : AccountState) (lawful : IsLawful a) (name : List ℕ) (vault : Vau
 
     pub jobs-completed : a.jobs ≡ jobs_in (changed_at completed a.vaults name)
     jobs-completed = omega (arith, lawful.jobs, total-completed each_job, sum_by-none (map.values upload.parts))
+
+    pub length-completed : snapshot_length (changed_at completed a.vaults name) + upload_total (lengths (length name)) upload ≡ a.length + archive_length (length name) (whole_archive m upload) + finished_length (length name)
+    length-completed = omega (arith, lawful.length, balance (lengths (length name)), length-changed_at a.vaults name vault there completed)
 
     pub due-completed : sooner a.due (finished_due (finished_as a.counter (whole_archive m upload))) ≡ due_in (changed_at completed a.vaults name)
     due-completed = ap (λ due. sooner due (finished_due (finished_as a.counter (whole_archive m upload)))) lawful.due
@@ -158,6 +175,26 @@ module _ (a : AccountState) (m : ℕ) (le : a.last ≤ m) (lawful : IsLawful a) 
 
   pub jobs-finished : a.jobs ≡ jobs_in (changed_at (with_completed number a.counter archive) a.vaults name)
   jobs-finished = of_whole (λ x. a.jobs ≡ jobs_in (changed_at (with_completed number a.counter x) a.vaults name)) (jobs-completed a lawful name vault there number fits.upload opened_there m)
+
+  length_balance : snapshot_length (changed_at (with_completed number a.counter archive) a.vaults name) + upload_total (lengths (length name)) fits.upload ≡ a.length + archive_length (length name) archive + finished_length (length name)
+  length_balance = of_whole (λ x. snapshot_length (changed_at (with_completed number a.counter x) a.vaults name) + upload_total (lengths (length name)) fits.upload ≡ a.length + archive_length (length name) x + finished_length (length name))
+      (length-completed a lawful name vault there number fits.upload opened_there m)
+
+  -- the upload is there, and how long it is
+  pub open_there : IsSome (map.get vault.uploads number)
+  open_there = subst IsSome (sym opened_there) refl
+
+  open_is : (n : ℕ) → open_length n number vault ≡ upload_total (lengths n) fits.upload
+  open_is n = ap (λ r. elim r as (λ _. ℕ) [ None ↦ 0 | Some upload ↦ upload_total (lengths n) upload ]) opened_there
+
+  module _ (n : ℕ) (is : n ≡ length name) where
+    pub length_open : open_length n number vault ≤ a.length + archive_length n archive + finished_length n
+    length_open = subst (λ n. open_length n number vault ≤ a.length + archive_length n archive + finished_length n) (sym is) (omega (arith, length_balance, open_is (length name)))
+
+    pub length-finished : (left : ℕ) → left + open_length n number vault ≡ a.length + archive_length n archive + finished_length n → left ≡ snapshot_length (changed_at (with_completed number a.counter archive) a.vaults name)
+    length-finished left e =
+        let here = subst (λ n. left + open_length n number vault ≡ a.length + archive_length n archive + finished_length n) is e in
+        omega (arith, here, length_balance, open_is (length name))
 
   pub due-finished : sooner a.due (finished_due (finished_as a.counter archive)) ≡ due_in (changed_at (with_completed number a.counter archive) a.vaults name)
   due-finished = of_whole (λ x. sooner a.due (finished_due (finished_as a.counter x)) ≡ due_in (changed_at (with_completed number a.counter x) a.vaults name)) (due-completed a lawful name vault there number fits.upload opened_there m)

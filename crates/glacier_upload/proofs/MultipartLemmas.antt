@@ -1,12 +1,13 @@
 -- What the beginning of an upload in parts leaves, and its end without an archive.
-use Rattle.std.specs.Prelude.{◌≡◌, ℕ, ◌≤◌, ◌+◌, ◌-◌, Bool, true, false, cond, not, List, Some, None, nat_le, sum_by}
+use Rattle.std.specs.Prelude.{◌≡◌, ℕ, ◌≤◌, ◌+◌, ◌-◌, Bool, true, false, cond, not, List, length, Some, None, nat_le, sum_by}
 use Rattle.std.specs.FinMap as map
 use Rattle.std.specs.Ordering.{nat_cmp}
-use Rattle.std.proofs.Common.{◌∙◌, ap, sym, refl, arith}
+use Rattle.std.proofs.Common.{◌∙◌, ap, sym, refl, subst, arith}
 use Rattle.glacier_base.specs.Maps.{changed_at}
 use Rattle.glacier_base.proofs.LookUps.{if_some-empty}
 use Rattle.glacier_vault.specs.Due.{due_in}
 use Rattle.glacier_vault.specs.Lawful.{IsLawful, IsLawfulVault, IsLawfulUpload, IsLawfulPart}
+use Rattle.glacier_vault.specs.Lengths.{lengths, upload_length, snapshot_length}
 use Rattle.glacier_vault.specs.PartSizes.{is_part_size}
 use Rattle.glacier_vault.specs.Rows.{in_vault, drawn, draw_refusal}
 use Rattle.glacier_vault.specs.Totals.{Weight, vault_total, total, upload_total, blocks, each_upload, each_job, naming, used_in, uploads_in, jobs_in}
@@ -17,14 +18,15 @@ use Rattle.glacier_vault.specs.declared.state.VaultState.{VaultState}
 use Rattle.glacier_vault.proofs.DueLemmas.{due_in-same}
 use Rattle.glacier_vault.proofs.KeepsLawful.{lawful-changed_at, lawful_there}
 use Rattle.glacier_vault.proofs.Later.{later_vault}
+use Rattle.glacier_vault.proofs.LengthLemmas.{length-changed_at}
 use Rattle.glacier_vault.proofs.TotalsLemmas.{sum_by-empty, sum_by-none, total-changed_at, total-remove}
 use Rattle.glacier_upload.specs.Uploads.{begin_refusal, new_upload, with_upload, without_upload, IsNewUpload}
 use Rattle.glacier_upload.specs.declared.beginning.TheConstants.{MOST_UPLOADS}
 use Rattle.glacier_upload.proofs.DrawLemmas.{drawn_left}
 use Rattle.glacier_upload.proofs.UploadMaps.{total-with_upload, lawful-with_upload, total-without_upload, lawful-without_upload}
 
--- an upload without parts counts as one upload
-pub upload_total-bare : (w : Weight) (upload : Upload) → upload.parts ≡ map.empty → upload_total w upload ≡ w.upload
+-- an upload without parts counts by itself
+pub upload_total-bare : (w : Weight) (upload : Upload) → upload.parts ≡ map.empty → upload_total w upload ≡ w.upload upload
 upload_total-bare w upload bare = omega (arith, ap (λ m. sum_by w.part (map.values m)) bare, sum_by-empty nat_cmp w.part)
 
 lawful-new : (m part_size : ℕ) (description : List ℕ) → is_part_size part_size ≡ true → IsLawfulUpload m (new_upload m part_size description)
@@ -50,11 +52,11 @@ module _ (a : AccountState) (m : ℕ) (le : a.last ≤ m) (lawful : IsLawful a) 
   later = later_vault a.counter a.counter (omega arith) a.last m le vault right_vault
 
   module _ (upload : Upload) (bare : upload.parts ≡ map.empty) where
-    begun : (w : Weight) → vault_total w (with_upload a.counter upload vault) ≡ vault_total w vault + w.upload
+    begun : (w : Weight) → vault_total w (with_upload a.counter upload vault) ≡ vault_total w vault + w.upload upload
     begun w = omega (arith, total-with_upload a.counter a.last vault right_vault upload w, upload_total-bare w upload bare)
 
     -- what a new upload adds to each total
-    pub total-begun : (w : Weight) → total w (changed_at (with_upload a.counter upload) a.vaults name) ≡ total w a.vaults + w.upload
+    pub total-begun : (w : Weight) → total w (changed_at (with_upload a.counter upload) a.vaults name) ≡ total w a.vaults + w.upload upload
     total-begun w = omega (arith, begun w, total-changed_at w a.vaults name vault there (with_upload a.counter upload))
 
     pub used-begun : a.used ≡ used_in (changed_at (with_upload a.counter upload) a.vaults name)
@@ -65,6 +67,11 @@ module _ (a : AccountState) (m : ℕ) (le : a.last ≤ m) (lawful : IsLawful a) 
 
     pub jobs-begun : a.jobs ≡ jobs_in (changed_at (with_upload a.counter upload) a.vaults name)
     jobs-begun = omega (arith, lawful.jobs, total-begun each_job)
+
+    pub length-begun : (n : ℕ) → n ≡ length name → (long : ℕ) → long ≡ a.length + upload_length n upload → long ≡ snapshot_length (changed_at (with_upload a.counter upload) a.vaults name)
+    length-begun n is long e =
+        let here = subst (λ n. long ≡ a.length + upload_length n upload) is e in
+        omega (arith, here, lawful.length, length-changed_at a.vaults name vault there (with_upload a.counter upload), begun (lengths (length name)))
 
     pub due-begun : a.due ≡ due_in (changed_at (with_upload a.counter upload) a.vaults name)
     due-begun = lawful.due ∙ sym (due_in-same a.vaults name vault there (with_upload a.counter upload) refl)
@@ -96,6 +103,18 @@ module _ (a : AccountState) (m : ℕ) (le : a.last ≤ m) (lawful : IsLawful a) 
 
     pub jobs-aborted : a.jobs ≡ jobs_in (changed_at (without_upload number) a.vaults name)
     jobs-aborted = omega (arith, lawful.jobs, total-aborted each_job, sum_by-none (map.values upload.parts))
+
+    length_balance : snapshot_length (changed_at (without_upload number) a.vaults name) + upload_total (lengths (length name)) upload ≡ a.length
+    length_balance = omega (arith, lawful.length, balance (lengths (length name)), length-changed_at a.vaults name vault there (without_upload number))
+
+    module _ (n : ℕ) (is : n ≡ length name) where
+      pub length_within : upload_total (lengths n) upload ≤ a.length
+      length_within = subst (λ n. upload_total (lengths n) upload ≤ a.length) (sym is) (omega (arith, length_balance))
+
+      pub length-aborted : (left : ℕ) → left + upload_total (lengths n) upload ≡ a.length → left ≡ snapshot_length (changed_at (without_upload number) a.vaults name)
+      length-aborted left e =
+          let here = subst (λ n. left + upload_total (lengths n) upload ≡ a.length) is e in
+          omega (arith, here, length_balance)
 
     pub due-aborted : a.due ≡ due_in (changed_at (without_upload number) a.vaults name)
     due-aborted = lawful.due ∙ sym (due_in-same a.vaults name vault there (without_upload number) refl)

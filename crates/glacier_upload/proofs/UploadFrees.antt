@@ -71,7 +71,7 @@ module _ (a : AccountState) (m : ℕ) (lawful : IsLawful a) (ask : PartAsk) (fou
   frees-part vault there upload is_open blob =
       let index : ℕ = index_of upload ask in
       let part : Part = found_part a.counter ask found in
-      at (nat_eq a.counter blob) refl (total-with_part a a.last (omega arith) lawful ask.vault vault there ask.upload upload is_open index part (naming blob))
+      at (nat_eq a.counter blob) refl (total-with_part a a.last (omega arith) lawful ask.vault vault there ask.upload upload is_open index part (naming blob) refl)
       (part_within a a.last (omega arith) lawful ask.vault vault there ask.upload upload is_open index (naming blob))
     where
       at : (b : Bool) → nat_eq a.counter blob ≡ b

@@ -20,8 +20,9 @@ use Rattle.glacier_upload.specs.Parts.{with_part, in_upload}
 use Rattle.glacier_upload.specs.Uploads.{with_upload, without_upload}
 
 -- a part in place of the one that was there
-pub upload_total-with_part : (w : Weight) (index : ℕ) (part : Part) (upload : Upload) → upload_total w (with_part index part upload) + weight w.part (map.get upload.parts index) ≡ upload_total w upload + w.part part
-upload_total-with_part w index part upload = omega (arith, sum_by-insert nat_cmp_total w.part upload.parts index part)
+pub upload_total-with_part : (w : Weight) (index : ℕ) (part : Part) (upload : Upload) → w.upload (with_part index part upload) ≡ w.upload upload
+    → upload_total w (with_part index part upload) + weight w.part (map.get upload.parts index) ≡ upload_total w upload + w.part part
+upload_total-with_part w index part upload same = omega (arith, same, sum_by-insert nat_cmp_total w.part upload.parts index part)
 
 module _ (counter last : ℕ) (vault : VaultState) (lawful : IsLawfulVault counter last vault) where
   module _ (upload : Upload) where

@@ -5,7 +5,9 @@ use Rattle.std.specs.List.{list_any, flat_map}
 use Rattle.glacier_treehash.specs.Roots.{root_of_digests}
 use Rattle.glacier_vault.specs.Account.{counter_end}
 use Rattle.glacier_vault.specs.Due.{sooner, finished_due}
+use Rattle.glacier_vault.specs.Lengths.{lengths}
 use Rattle.glacier_vault.specs.Rows.{Row, no_change, changed, in_vault, drawn, draw_refusal, with_archives}
+use Rattle.glacier_vault.specs.Totals.{upload_total}
 use Rattle.glacier_vault.specs.declared.archive.Archive.{Archive}
 use Rattle.glacier_vault.specs.declared.archive.Finished.{Finished}
 use Rattle.glacier_vault.specs.declared.archive.Part.{Part}
@@ -66,6 +68,18 @@ whole_archive m upload = record {
 -- the upload that was completed as an archive of this number
 abbrev pub finished_as : ℕ → Archive → Finished
 finished_as archive_number archive = record { at = archive.created; size = archive.size; tree = archive.tree; archive = archive_number }
+
+-- the vault in which the open upload of a number is finished
+abbrev pub with_finished : ℕ → Finished → VaultState → VaultState
+with_finished number finished vault = record vault {
+  uploads = map.remove vault.uploads number;
+  finished = map.insert vault.finished number finished;
+  due = sooner vault.due (finished_due finished);
+}
+
+-- how many bytes the open upload of a number takes in a snapshot, where the vault's name has n bytes
+abbrev pub open_length : ℕ → ℕ → VaultState → ℕ
+open_length n number vault = elim (map.get vault.uploads number) [ None ↦ 0 | Some upload ↦ upload_total (lengths n) upload ]
 
 -- the vault in which the open upload of a number became an archive of another number
 abbrev pub with_completed : ℕ → ℕ → Archive → VaultState → VaultState

@@ -4,6 +4,7 @@ use Rattle.std.specs.FinMap as map
 use Rattle.glacier_base.specs.Maps.{changed_at}
 use Rattle.glacier_vault.specs.Account.{counter_end}
 use Rattle.glacier_vault.specs.Lawful.{IsLawfulPart}
+use Rattle.glacier_vault.specs.Lengths.{part_length}
 use Rattle.glacier_vault.specs.PartSizes.{last_index}
 use Rattle.glacier_vault.specs.Rows.{Row, changed_freeing, in_vault, drawn}
 use Rattle.glacier_vault.specs.Totals.{need}
@@ -64,6 +65,10 @@ replaced_blob upload index = elim (map.get upload.parts index) [ None ↦ [] | S
 -- how many blocks it takes
 abbrev pub replaced_room : Upload → ℕ → ℕ
 replaced_room upload index = elim (map.get upload.parts index) [ None ↦ 0 | Some old ↦ need old.size ]
+
+-- how many bytes it takes in a snapshot, where the vault's name has n bytes
+abbrev pub replaced_length : ℕ → Upload → ℕ → ℕ
+replaced_length n upload index = elim (map.get upload.parts index) [ None ↦ 0 | Some old ↦ part_length n old ]
 
 -- the blob of the part at an index of the open upload of a number in the vault of a name
 abbrev pub replaced : AccountState → List ℕ → ℕ → ℕ → List ℕ

@@ -7,7 +7,9 @@ ghost use Rattle.glacier_vault.specs.Totals.{blocks};
 ghost use Rattle.glacier_upload.specs.Uploads.{open_upload, open_blobs, abort_row, part_blobs, without_upload};
 
 use glacier_base::{List, Memory, Moment, VaultName};
-use glacier_vault::{AccountState, Change, Event, Refusal, Upload, blocks_of};
+use glacier_vault::{
+    AccountState, Change, Event, Refusal, Upload, blocks_of, length_without_upload, name_length,
+};
 use std::alloc::Global;
 
 /// The blobs of an upload's parts, in the order of the parts.
@@ -58,6 +60,7 @@ pub fn take_upload(
     };
     let freed = all_blobs(alloc, &open)?;
     state.used = used - all_blocks(&open);
+    state.length = length_without_upload(state.length, name_length(name), &open);
     state.uploads = uploads - 1;
     state.last = m;
     Ok(freed)

@@ -7,7 +7,9 @@ ghost use Rattle.glacier_vault.specs.Totals.{bytes_in};
 ghost use Rattle.glacier_upload.specs.Single.{with_archive, IsNewArchive};
 
 use glacier_base::{Memory, Moment, VaultName};
-use glacier_vault::{AccountState, Archive, VaultState, blocks_of};
+use glacier_vault::{
+    AccountState, Archive, VaultState, blocks_of, length_with_archive, name_length,
+};
 
 /// Puts an archive at a number that the vault doesn't have. A sum of bytes that is no `u64` is
 /// want of memory.
@@ -47,11 +49,15 @@ pub fn put_archive(
     let Some(used) = state.used.checked_add(blocks_of(archive.size)) else {
         return Err(Memory);
     };
+    let Some(length) = length_with_archive(state.length, name_length(name), &archive) else {
+        return Err(Memory);
+    };
     let Some(vault) = state.vaults.get_mut(name) else {
         unreachable!();
     };
     insert_archive(vault, state.counter, archive)?;
     state.used = used;
+    state.length = length;
     state.counter += 1;
     state.last = m;
     Ok(())

@@ -6,7 +6,9 @@ ghost use Rattle.glacier_vault.specs.Rows.{answer, state_after, in_vault, drawn}
 ghost use Rattle.glacier_upload.specs.Uploads.{begin_refusal, begin_row, with_upload, IsNewUpload};
 
 use glacier_base::{Description, Memory, Moment, PartMap, VaultName};
-use glacier_vault::{AccountState, Change, Event, Refusal, Upload, refuse_draw};
+use glacier_vault::{
+    AccountState, Change, Event, Refusal, Upload, length_with_upload, name_length, refuse_draw,
+};
 use std::alloc::Global;
 
 /// The most uploads that can be open in an account.
@@ -56,7 +58,7 @@ fn refuse_begin(state: &AccountState, vault: &VaultName, part_size: u64) -> Opti
 }
 
 /// Puts an upload without parts into a vault at the moment `m`, at the account's next number.
-/// Nobody has asked how many are open; a count that is no `u64` is want of memory.
+/// Nobody has asked how many are open; a count or a length that is no `u64` is want of memory.
 pub fn put_upload(
     state: &mut AccountState,
     m: Moment,
@@ -74,11 +76,15 @@ pub fn put_upload(
     let Some(uploads) = state.uploads.checked_add(1) else {
         return Err(Memory);
     };
+    let Some(length) = length_with_upload(state.length, name_length(name), &upload) else {
+        return Err(Memory);
+    };
     let Some(vault) = state.vaults.get_mut(name) else {
         unreachable!();
     };
     vault.uploads.insert(state.counter, upload)?;
     state.uploads = uploads;
+    state.length = length;
     state.counter += 1;
     state.last = m;
     Ok(())

@@ -1,8 +1,10 @@
 // Completions of uploads in parts.
-ghost use Rattle.std.specs.Prelude.{◌≡◌, ◌≤◌, IfOk, OnOk, MatchResult, Some, None};
+ghost use Rattle.std.specs.Prelude.{◌≡◌, ◌≤◌, ◌+◌, IfOk, OnOk, MatchResult, IfSome, IsSome, Some, None};
+ghost use Rattle.std.specs.FinMap as map;
 ghost use Rattle.glacier_vault.specs.Lawful.{IsLawful, IsLawfulUpload};
+ghost use Rattle.glacier_vault.specs.Lengths.{archive_length, finished_length};
 ghost use Rattle.glacier_vault.specs.Rows.{answer, state_after, in_vault, drawn};
-ghost use Rattle.glacier_upload.specs.Completion.{cover_refusal, complete_refusal, archive_before, complete_row, whole_archive, with_completed, IsWhole};
+ghost use Rattle.glacier_upload.specs.Completion.{cover_refusal, complete_refusal, archive_before, complete_row, whole_archive, with_completed, with_finished, open_length, IsWhole};
 
 use crate::aborting::all_blobs;
 use crate::archives::insert_archive;
@@ -11,7 +13,8 @@ use crate::covering::{all_leaves, covered_bytes, leaves_gap};
 use glacier_base::{Digest, Memory, Moment, VaultName};
 use glacier_vault::{
     AccountState, Archive, Change, Event, Finished, Refusal, Upload, VaultState, finished_due,
-    refuse_draw, sooner,
+    length_with_archive, length_with_finished, length_without_upload, name_length, refuse_draw,
+    sooner,
 };
 use std::alloc::Global;
 
@@ -85,6 +88,38 @@ fn accept(
     }))
 }
 
+/// So many bytes and those of an archive and a finished upload, in a vault whose name has `n` bytes.
+fn length_with_both(length: u64, n: u64, archive: &Archive) -> Option<u64>
+    ensures { IfSome result (λ more. more
+        ≡ length + archive_length n archive.now + finished_length n) }
+{
+    length_with_finished(length_with_archive(length, n, archive)?, n)
+}
+
+/// Puts a finished upload in the place of the open one of its number, and answers what is left of
+/// `length` bytes without those of the open one. The vault's name has `n` bytes.
+fn close_upload(
+    vault: &mut VaultState,
+    upload: u64,
+    finished: Finished,
+    length: u64,
+    n: u64,
+) -> Result<u64, Memory>
+    requires there { IsSome (map.get vault.old.uploads upload) }
+    requires within { open_length n upload vault.old ≤ length }
+
+    ensures vault { OnOk result (vault.new ≡ with_finished upload finished vault.old) }
+    ensures length { IfOk result (λ left. left + open_length n upload vault.old ≡ length) }
+{
+    let due = finished_due(&finished);
+    let Some(open) = vault.uploads.remove(upload) else {
+        unreachable!();
+    };
+    vault.finished.insert(upload, finished)?;
+    vault.due = sooner(vault.due, due);
+    Ok(length_without_upload(length, n, &open))
+}
+
 /// Puts the archive that an open upload's parts make up in the upload's place, at the account's
 /// next number. The upload is finished. A sum of bytes that is no `u64` is want of memory.
 pub fn finish_upload(
@@ -102,6 +137,10 @@ pub fn finish_upload(
         (with_completed upload state.old.counter archive)) }
     ensures lawful { OnOk result (IsLawful state.new) }
 {
+    let n = name_length(name);
+    let Some(length) = length_with_both(state.length, n, &archive) else {
+        return Err(Memory);
+    };
     let finished = Finished {
         at: m,
         size: archive.size,
@@ -113,10 +152,9 @@ pub fn finish_upload(
     let Some(vault) = state.vaults.get_mut(name) else {
         unreachable!();
     };
+    let length = close_upload(vault, upload, finished, length, n)?;
     insert_archive(vault, state.counter, archive)?;
-    let _ = vault.uploads.remove(upload);
-    vault.finished.insert(upload, finished)?;
-    vault.due = sooner(vault.due, due);
+    state.length = length;
     state.due = sooner(state.due, due);
     state.uploads = uploads - 1;
     state.counter += 1;

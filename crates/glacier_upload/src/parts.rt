@@ -1,14 +1,17 @@
 // Parts of open uploads.
-ghost use Rattle.std.specs.Prelude.{◌≡◌, ◌≤◌, ◌<◌, IfOk, OnOk, length};
+ghost use Rattle.std.specs.Prelude.{◌≡◌, ◌≤◌, ◌<◌, ◌+◌, IfOk, OnOk, length};
 ghost use Rattle.glacier_vault.specs.Lawful.{IsLawful};
 ghost use Rattle.glacier_vault.specs.Rows.{answer, state_after, in_vault, drawn};
 ghost use Rattle.glacier_vault.specs.Totals.{need, used_in};
-ghost use Rattle.glacier_upload.specs.Parts.{is_misplaced, part_refusal, IsPartAdmitted, IsNewPart, with_part, in_upload, replaced, replaced_blob, replaced_room, part_row};
+ghost use Rattle.glacier_upload.specs.Parts.{is_misplaced, part_refusal, IsPartAdmitted, IsNewPart, with_part, in_upload, replaced, replaced_blob, replaced_room, replaced_length, part_row};
 
 use crate::asks::{Found, PartAsk};
 use crate::bodies::{MOST_BLOCKS, refuse_body, refuse_room};
 use glacier_base::{List, Memory, Moment, VaultName};
-use glacier_vault::{AccountState, Change, Event, Part, Refusal, Rules, Upload, blocks_of};
+use glacier_vault::{
+    AccountState, Change, Event, Part, Refusal, Rules, Upload, blocks_of, length_with_part,
+    length_without_part, name_length,
+};
 use std::alloc::Global;
 
 /// The greatest index of a part: an upload has at most 10,000 (Amazon S3 Glacier Developer Guide,
@@ -48,27 +51,46 @@ pub fn admit_part(state: &AccountState, rules: &Rules, ask: &PartAsk) -> Option<
     refuse_room(state, rules.quota, ask.size)
 }
 
-/// The blob of a part that was replaced, and how many blocks it takes.
+/// The blob of a part that was replaced, how many blocks it takes, and how many bytes the account's
+/// snapshot takes without it.
 #[derive(Drop)]
 struct Replaced {
     blobs: List<u64>,
     room: u64,
+    length: u64,
 }
 
-/// Puts a part at its index, in place of one that is there.
-fn replace(alloc: Global, upload: &mut Upload, index: u32, part: Part) -> Result<Replaced, Memory>
+/// Puts a part at its index, in place of one that is there. The account's snapshot takes `length`
+/// bytes with both, and the vault's name has `n` bytes.
+fn replace(
+    alloc: Global,
+    upload: &mut Upload,
+    index: u32,
+    part: Part,
+    length: u64,
+    n: u64,
+) -> Result<Replaced, Memory>
+    requires within { replaced_length n upload.old index ≤ length }
+
     ensures upload { OnOk result (upload.new ≡ with_part index part upload.old) }
     ensures blobs { IfOk result (λ replaced. replaced.blobs ≡ replaced_blob upload.old index) }
-    ensures room { IfOk result (λ replaced. replaced.room ≡ replaced_room upload.old index) }
+    ensures sizes { IfOk result (λ replaced. (replaced.room ≡ replaced_room upload.old index)
+        × (replaced.length + replaced_length n upload.old index ≡ length)) }
 {
     let mut blobs = List::new(alloc);
     let mut room = 0;
+    let mut length = length;
     if let Some(old) = upload.parts.get(index) {
         blobs.push(old.blob)?;
         room = blocks_of(old.size);
+        length = length_without_part(length, n, old);
     }
     upload.parts.insert(index, part)?;
-    Ok(Replaced { blobs, room })
+    Ok(Replaced {
+        blobs,
+        room,
+        length,
+    })
 }
 
 /// Puts a part into an open upload at the moment `m`, in place of one that is at its index, and
@@ -95,14 +117,19 @@ pub fn put_part(
     let Some(used) = state.used.checked_add(blocks_of(part.size)) else {
         return Err(Memory);
     };
+    let n = name_length(name);
+    let Some(length) = length_with_part(state.length, n, &part) else {
+        return Err(Memory);
+    };
     let Some(vault) = state.vaults.get_mut(name) else {
         unreachable!();
     };
     let Some(open) = vault.uploads.get_mut(upload) else {
         unreachable!();
     };
-    let replaced = replace(alloc, open, index, part)?;
+    let replaced = replace(alloc, open, index, part, length, n)?;
     state.used = used - replaced.room;
+    state.length = replaced.length;
     state.counter += 1;
     state.last = m;
     Ok(replaced.blobs)
