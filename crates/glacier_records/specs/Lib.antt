@@ -2,6 +2,7 @@ pub mod Codec
 pub mod EventFields
 pub mod Fields
 pub mod KeptFields
+pub mod KeptLengths
 pub mod Reading
 pub mod Room
 pub mod Spells
