@@ -5,6 +5,8 @@
 #[cfg(test)]
 mod archive_tests;
 #[cfg(test)]
+mod body_tests;
+#[cfg(test)]
 mod extents_tests;
 #[cfg(test)]
 mod ground;
@@ -30,6 +32,8 @@ mod past_tests;
 mod policy_tests;
 #[cfg(test)]
 mod record_tests;
+#[cfg(test)]
+mod restored_tests;
 #[cfg(test)]
 mod upload_calls;
 #[cfg(test)]
