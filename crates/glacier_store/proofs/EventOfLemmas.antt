@@ -1,6 +1,6 @@
 -- What an event that fits makes of the accounts, of the blobs and of the free blocks.
 use Rattle.std.specs.FinMap as map
-use Rattle.std.proofs.Common.{◌≡◌, ℕ, ◌<◌, ◌≤◌, Bool, true, false, cond, ◌&&◌, not, List, [], ◌∷◌, Option, Some, None, refl, sym, ◌∙◌, ap, subst, arith}
+use Rattle.std.proofs.Common.{◌≡◌, ℕ, ◌<◌, ◌≤◌, Bool, true, false, cond, ◌&&◌, not, List, [], ◌∷◌, Option, Some, None, refl, sym, ◌∙◌, ap, subst, arith, inl, inr}
 use Rattle.std.specs.Prelude.{IsSome, is_some}
 use Rattle.glacier_bodies.specs.BlobAreas.{AreaState, IsOpen, with_blob, without_blob}
 use Rattle.glacier_bodies.specs.Stands.{Layouts, at_blob}
@@ -10,13 +10,14 @@ use Rattle.glacier_extents.specs.Runs.{block_count, has_block}
 use Rattle.glacier_vault.specs.declared.event.Event.{Event}
 use Rattle.glacier_vault.specs.declared.state.AccountState.{AccountState}
 use Rattle.glacier_replay.specs.Accounts.{Accounts, account_in}
-use Rattle.glacier_replay.specs.Changes.{AccountEvent, State, accounts_after, after_account_event, blobs_after, body_in, change_in, leaf_count, new_blob, with_new, without_blobs}
-use Rattle.glacier_replay.specs.Made.{BlocksFit, EventFits, Holdings, IsRest, IsSettled, after_event}
+use Rattle.glacier_replay.specs.Changes.{AccountEvent, State, accounts_after, after_account_event, blobs_after, body_in, leaf_count, new_blob, with_new, without_blobs}
+use Rattle.glacier_replay.specs.Made.{EventFits, IsRest, after_event}
 use Rattle.glacier_replay.specs.Replayed.{Replay}
 use Rattle.glacier_replay.proofs.BlobMaps.{account_is, is_account}
 use Rattle.glacier_replay.proofs.CounterLemmas.{counts, of_replayed}
-use Rattle.glacier_replay.proofs.RestLemmas.{apart_with, apart_without, rest_with}
+use Rattle.glacier_replay.proofs.RestLemmas.{rest_with}
 use Rattle.glacier_replay.proofs.SettledLemmas.{account_after}
+use Rattle.glacier_store.specs.Drawn.{AreDrawn}
 use Rattle.glacier_store.specs.Held.{IsRestBeside}
 use Rattle.glacier_store.specs.HoldingCalls.{IsEventOf}
 
@@ -28,8 +29,8 @@ pub its_new : {X : Type 0} (counter : ℕ) (event : Event) (x : X) → IsSome (b
 its_new {X} counter event x some = at (body_in event) some
   where
     at : (r : Option (ℕ × List (List ℕ))) → IsSome r → (elim r as (λ _. Option (ℕ × X)) [ None ↦ None | Some told ↦ Some (counter, x) ]) ≡ Some (counter, x)
-    at None no = cc
-    at (Some told) yes = refl
+    at None there = cc
+    at (Some told) there = refl
 
 module _ (before : State) (after : Accounts) (h : AccountEvent) (freed : List ℕ) (event : IsEventOf before.accounts after h freed) where
   -- the accounts after it are those of the state after it
@@ -80,40 +81,40 @@ pub rest_named : (own free : List Run) (layouts : Layouts) (account : List ℕ) 
     → IsRestBeside own free layouts → IsRest free (with_blob layouts account number own)
 rest_named own free layouts account number fresh beside = rest_with beside.whole layouts beside.rest account number own free fresh beside.taken
 
--- what is held stays settled where an open body becomes a blob
-pub settled_with : (accounts : Accounts) (area : AreaState) (account : List ℕ) (number : ℕ) (runs : List Run) → IsSettled (record { accounts = accounts; layouts = area.blobs })
-    → IsOpen area runs → number < (account_in accounts account).counter → IsSettled (record { accounts = accounts; layouts = with_blob area.blobs account number runs })
-settled_with accounts area account number runs settled opened drawn = record {
-  apart = apart_with area.blobs account number runs settled.apart opened.distinct opened.unnamed;
-  drawn = λ a n own there. elim (blob_after area.blobs account a number n runs own there) [
-    | inl mine ↦ subst (λ (k : ℕ). k < (account_in accounts a).counter) (sym mine.1) (subst (λ (k : List ℕ). number < (account_in accounts k).counter) (sym mine.0) drawn)
-    | inr old ↦ settled.drawn a n own old
-  ];
-}
+-- each blob's number stays drawn where an open body becomes a blob
+pub drawn_with : (accounts : Accounts) (layouts : Layouts) (account : List ℕ) (number : ℕ) (runs : List Run) → AreDrawn accounts layouts
+    → number < (account_in accounts account).counter → AreDrawn accounts (with_blob layouts account number runs)
+drawn_with accounts layouts account number runs drawn its a n own there = elim (blob_after layouts account a number n runs own there) [
+  | inl mine ↦ subst (λ (k : ℕ). k < (account_in accounts a).counter) (sym mine.1) (subst (λ (k : List ℕ). number < (account_in accounts k).counter) (sym mine.0) its)
+  | inr old ↦ drawn a n own old
+]
 
--- and where blobs go
-pub settled_without : (accounts : Accounts) (layouts : Layouts) (account numbers : List ℕ) → IsSettled (record { accounts = accounts; layouts = layouts })
-    → IsSettled (record { accounts = accounts; layouts = without_blobs layouts account numbers })
-settled_without accounts layouts account [] settled = settled
-settled_without accounts layouts account (number ∷ numbers) settled = settled_without accounts (without_blob layouts account number) account numbers (record {
-  apart = apart_without layouts account number settled.apart;
-  drawn = λ a n own there. settled.drawn a n own (blob_without layouts account a number n own there).0;
-})
+-- where blobs go
+pub drawn_without : (accounts : Accounts) (layouts : Layouts) (account numbers : List ℕ) → AreDrawn accounts layouts → AreDrawn accounts (without_blobs layouts account numbers)
+drawn_without accounts layouts account [] drawn = drawn
+drawn_without accounts layouts account (number ∷ numbers) drawn =
+    drawn_without accounts (without_blob layouts account number) account numbers (λ a n own there. drawn a n own (blob_without layouts account a number n own there).0)
 
 -- and where an account goes on by an event
-pub settled_on : (before after : Accounts) (h : AccountEvent) (freed : List ℕ) (layouts : Layouts) → IsEventOf before after h freed
-    → IsSettled (record { accounts = before; layouts = layouts }) → IsSettled (record { accounts = after; layouts = layouts })
-settled_on before after h freed layouts event settled = record {
-  apart = settled.apart;
-  drawn = λ a n own there. subst (λ (s : AccountState). n < s.counter) (sym (ap (λ (all : Accounts). account_in all a) event.after_is ∙ account_after before h.account event.becomes a))
-      (at a n (settled.drawn a n own there) (is_account h.account a) refl);
-}
+pub drawn_on : (before after : Accounts) (h : AccountEvent) (freed : List ℕ) (layouts : Layouts) → IsEventOf before after h freed → AreDrawn before layouts → AreDrawn after layouts
+drawn_on before after h freed layouts event drawn a n own there =
+    subst (λ (s : AccountState). n < s.counter) (sym (ap (λ (all : Accounts). account_in all a) event.after_is ∙ account_after before h.account event.becomes a))
+    (at (is_account h.account a) refl)
   where
     stays : (account_in before h.account).counter ≤ event.becomes.counter
     stays = (counts (account_in before h.account) h.moment (event.becomes, freed) h.event (of_replayed (account_in before h.account) h.moment h.event (event.becomes, freed) event.change).1).stays
 
-    at : (a : List ℕ) (n : ℕ) → n < (account_in before a).counter → (b : Bool) → is_account h.account a ≡ b → n < (cond b event.becomes (account_in before a)).counter
-    at a n low true is =
+    at : (b : Bool) → is_account h.account a ≡ b → n < (cond b event.becomes (account_in before a)).counter
+    at true is =
+        let low : n < (account_in before a).counter = drawn a n own there in
         let same : (account_in before a).counter ≡ (account_in before h.account).counter = ap (λ (k : List ℕ). (account_in before k).counter) (account_is h.account a is) in
         omega (arith, low, same, stays)
-    at a n low false is = low
+    at false is = drawn a n own there
+
+-- the next number of an account has no blob yet
+pub next_fresh : (accounts : Accounts) (layouts : Layouts) → AreDrawn accounts layouts → (account : List ℕ) → at_blob layouts account (account_in accounts account).counter ≡ None
+next_fresh accounts layouts drawn account = at (at_blob layouts account (account_in accounts account).counter) refl
+  where
+    at : (r : Option (List Run)) → at_blob layouts account (account_in accounts account).counter ≡ r → r ≡ None
+    at None e = refl
+    at (Some runs) e = absurd (omega (arith, drawn account (account_in accounts account).counter runs e))

@@ -4,7 +4,7 @@ use Rattle.glacier_bodies.specs.Blobs.{Holds}
 use Rattle.glacier_bodies.specs.Stands.{Layouts}
 use Rattle.glacier_disk.specs.declared.area.Area.{Area}
 use Rattle.glacier_disk.specs.declared.area.Area.TheVariants.{Lead, Left, Right, Blobs}
-use Rattle.glacier_disk.specs.Image.{Image, Only}
+use Rattle.glacier_disk.specs.Image.{Image, NoMore, Only}
 use Rattle.glacier_disk.specs.Moments.{LeavesOnly, started, weaker}
 use Rattle.glacier_disk.specs.Told.{Told, Lawful}
 use Rattle.glacier_extents.specs.declared.run.Run.{Run}
@@ -43,6 +43,14 @@ listed_stands i area payloads end layouts state listed is = record {
 -- what is held stands
 pub held_stands : (disk : Told) (journal : Journal) (layouts : Layouts) (state : State) → IsHeldBy disk journal layouts state → (i : Image) → disk.leaves i → Stands i state
 held_stands disk journal layouts state held i left = listed_stands i journal.area held.payloads journal.length layouts state (held.listed i left) (held.state_is i left)
+
+-- and stays held where a crash leaves no other image
+pub held_rests : (old new : Told) (journal : Journal) (layouts : Layouts) (state : State) → NoMore old.leaves new.leaves → IsHeldBy old journal layouts state → IsHeldBy new journal layouts state
+held_rests old new journal layouts state rests held = record {
+  payloads = held.payloads;
+  listed = λ i now. held.listed i (rests i now);
+  state_is = λ i now. held.state_is i (rests i now);
+}
 
 -- before the first call of the disk
 pub remains_start : (old : Told) (journal : Journal) (layouts : Layouts) (state : State) → Lawful old → IsHeldBy old journal layouts state → Remains old old state

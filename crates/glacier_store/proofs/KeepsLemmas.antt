@@ -3,7 +3,7 @@ use Rattle.std.proofs.Common.{◌≡◌, inl, ℕ, ◌+◌, List, [], ◌∷◌,
 use Rattle.std.specs.Prelude.{Result, IfOk, IsErrOf}
 use Rattle.glacier_bodies.specs.BlobAreas.{AreaState, IsOpen}
 use Rattle.glacier_bodies.specs.Blobs.{Holds}
-use Rattle.glacier_bodies.specs.Stands.{Layouts}
+use Rattle.glacier_bodies.specs.Stands.{AreApart, Layouts}
 use Rattle.glacier_disk.specs.declared.area.Area.TheVariants.{Blobs}
 use Rattle.glacier_disk.specs.Moments.{weaker}
 use Rattle.glacier_disk.specs.Told.{Told, Lawful}
@@ -16,7 +16,8 @@ use Rattle.glacier_journal.specs.declared.journal.Journal.{Journal}
 use Rattle.glacier_records.specs.Spells.{Spells}
 use Rattle.glacier_replay.specs.Accounts.{Accounts, account_in}
 use Rattle.glacier_replay.specs.Changes.{AccountEvent, IsBodyOf, State, after_account_event, leaf_count, new_blob, with_new, without_blobs}
-use Rattle.glacier_replay.specs.Made.{EventFits, IsRest, record_of}
+use Rattle.glacier_replay.specs.Made.{EventFits, IsRest, nothing, record_of}
+use Rattle.glacier_replay.proofs.SettledLemmas.{leads_settled, nothing_settled}
 use Rattle.glacier_store.specs.Held.{IsHeldBy, IsRestBeside}
 use Rattle.glacier_store.specs.HoldingCalls.{IsEventOf, Keeps}
 use Rattle.glacier_store.specs.declared.fault.StoreFault.{StoreFault}
@@ -26,22 +27,25 @@ use Rattle.glacier_store.proofs.EventOfLemmas.{accounts_are, event_fits, layouts
 use Rattle.glacier_store.proofs.HeldLemmas.{becomes, held_on, layouts_after, remains_start}
 
 -- memory was wanting before the first call of the disk
-pub kept_without_memory : (old : Told) (journal : Journal) (area : AreaState) (own : List Run) (before after : State) → Lawful old
-    → Keeps old old journal area own before after (Err fault.Memory)
-kept_without_memory old journal area own before after law = record {
+pub kept_without_memory : (old : Told) (journal : Journal) (area : AreaState) (own : List Run) (before after : State) (result : Result Holding StoreFault) → result ≡ Err fault.Memory → Lawful old
+    → Keeps old old journal area own before after result
+kept_without_memory old journal area own before after result is law = subst (λ (r : Result Holding StoreFault). Keeps old old journal area own before after r) (sym is) (record {
   any_moment = λ held. weaker old old _ _ (remains_start old journal area.blobs before law held) (λ i stands. inl stands);
-  memory = λ held is. remains_start old journal area.blobs before law held;
+  memory = λ held same. remains_start old journal area.blobs before law held;
   kept = λ held beside. tt;
   touches = touches_start journal.area old law;
-}
+})
 
 module _ (old new : Told) (journal : Journal) (area : AreaState) (own : List Run) (before : State) (h : AccountEvent) (afterwards : Accounts) (freed payload : List ℕ)
     (law : Lawful old) (event : IsEventOf before.accounts afterwards h freed) (spells : Spells payload (record_of h own))
     (opened : IsOpen area own) (count : block_count own ≡ leaf_count h.event) (body_is : IsBodyOf h.event h.body) (stored : Holds own h.body (old.reads Blobs))
     (named : AreaState) (named_is : named.blobs ≡ with_new area.blobs h.account (new_blob (account_in before.accounts h.account).counter h.event own))
-    (rest_is : IsRestBeside own area.free area.blobs → IsRest named.free named.blobs) (appends : Appends journal.area journal.length payload old new) where
+    (apart_is : AreApart area.blobs → AreApart named.blobs) (rest_is : IsRestBeside own area.free area.blobs → IsRest named.free named.blobs) (appends : Appends journal.area journal.length payload old new) where
   fits : EventFits (record { accounts = before.accounts; layouts = area.blobs }) h.account h.moment h.event own
   fits = event_fits before afterwards h freed event area own opened count
+
+  apart : IsHeldBy old journal area.blobs before → AreApart area.blobs
+  apart held = (leads_settled held.payloads nothing (record { accounts = before.accounts; layouts = area.blobs }) nothing_settled (held.state_is old.reads law.reads_left).made).apart
 
   its_layouts : (done : Layouts) → done ≡ without_blobs named.blobs h.account freed
       → done ≡ layouts_after before area.blobs h own
@@ -52,7 +56,7 @@ module _ (old new : Told) (journal : Journal) (area : AreaState) (own : List Run
       → ((payloads : Payloads) → AllList old.leaves journal.area payloads journal.length
       → IfOk result (λ done. IsDurable old new journal.area done.journal.area (payloads ++ payload ∷ []) done.journal.length))
       → IfOk result (λ done. done.accounts ≡ afterwards) → IfOk result (λ done. done.area.blobs ≡ without_blobs named.blobs h.account freed)
-      → IfOk result (λ done. IsRest named.free named.blobs → IsRest done.area.free done.area.blobs) → (IsErrOf result fault.Memory → ⊥)
+      → IfOk result (λ done. AreApart named.blobs → IsRest named.free named.blobs → IsRest done.area.free done.area.blobs) → (IsErrOf result fault.Memory → ⊥)
       → Keeps old new journal area own before (after_account_event before h) result
   kept_by_append (Ok done) acknowledged accounts blobs rest no_memory = record {
     any_moment = λ held. becomes old new journal area.blobs before h own payload law spells event.lawful fits body_is stored held appends;
@@ -61,7 +65,7 @@ module _ (old new : Told) (journal : Journal) (area : AreaState) (own : List Run
       accounts = accounts ∙ accounts_are before afterwards h freed event;
       held = subst (λ (l : Layouts). IsHeldBy new done.journal l (after_account_event before h)) (sym (its_layouts done.area.blobs blobs))
           (held_on old new journal area.blobs before h own payload law spells event.lawful fits body_is stored held done.journal (acknowledged held.payloads held.listed));
-      rest = rest (rest_is beside);
+      rest = rest (apart_is (apart held)) (rest_is beside);
     };
     touches = appends.touches;
   }

@@ -1,8 +1,9 @@
 -- What opening a holding answers, and what making one does.
 use Rattle.std.specs.FinMap as map
-use Rattle.std.proofs.Common.{◌≡◌, ◌⊎◌, inl, inr, ⊎_elim, ℕ, ◌<◌, true, List, [], Ok, Err, ◌∙◌, sym, ap, subst}
+use Rattle.std.proofs.Common.{◌≡◌, ◌⊎◌, inl, inr, ⊎_elim, ℕ, ◌<◌, true, List, [], Some, None, Ok, Err, ◌∙◌, sym, ap, subst}
 use Rattle.std.specs.Prelude.{◌↔◌}
-use Rattle.glacier_bodies.specs.Stands.{Layouts}
+use Rattle.glacier_bodies.specs.Stands.{Layouts, at_blob}
+use Rattle.glacier_bodies.proofs.NameLemmas.{no_blob_at}
 use Rattle.glacier_disk.specs.declared.area.Area.{Area}
 use Rattle.glacier_disk.specs.declared.area.Area.TheVariants.{Blobs}
 use Rattle.glacier_disk.specs.Image.{Image, Only}
@@ -19,12 +20,12 @@ use Rattle.glacier_journal.specs.declared.journal.Journal.{Journal}
 use Rattle.glacier_journal.proofs.OneList.{breaks_none, one_list}
 use Rattle.glacier_replay.specs.Accounts.{Accounts}
 use Rattle.glacier_replay.specs.Changes.{State}
-use Rattle.glacier_replay.specs.Made.{Holdings, IsRest, IsSettled, Makes, nothing}
+use Rattle.glacier_replay.specs.Made.{Holdings, IsRest, Makes, nothing}
 use Rattle.glacier_replay.specs.Standing.{IsStateOf, Stands}
 use Rattle.glacier_replay.proofs.MadeLemmas.{bad_makes_none, leads_one}
 use Rattle.glacier_replay.proofs.RestLemmas.{rest_empty}
-use Rattle.glacier_replay.proofs.SettledLemmas.{nothing_settled}
 use Rattle.glacier_replay.proofs.ReadStates.{none_kept}
+use Rattle.glacier_store.specs.Drawn.{AreDrawn}
 use Rattle.glacier_store.specs.Faults.{store_fault}
 use Rattle.glacier_store.specs.Held.{IsHeldBy, IsKept, ListsBadRecord, Refuses}
 use Rattle.glacier_store.specs.HoldingCalls.{Recovers, no_state}
@@ -121,8 +122,8 @@ new_held new found layouts only listed none =
 pub new_rest : (free : List Run) (layouts : Layouts) → ((b : ℕ) → (has_block free b ≡ true) ↔ (b < blocks)) → layouts ≡ map.empty → IsRest free layouts
 new_rest free layouts all none = subst (λ (l : Layouts). IsRest free l) (sym none) (rest_empty free all)
 
--- and what is held is settled
-pub new_settled : (accounts : Accounts) (layouts : Layouts) → accounts ≡ map.empty → layouts ≡ map.empty → IsSettled (record { accounts = accounts; layouts = layouts })
-new_settled accounts layouts no_account no_blob =
-    subst (λ (a : Accounts). IsSettled (record { accounts = a; layouts = layouts })) (sym no_account)
-    (subst (λ (l : Layouts). IsSettled (record { accounts = map.empty; layouts = l })) (sym no_blob) nothing_settled)
+-- no blob has a number
+pub none_drawn : (accounts : Accounts) (layouts : Layouts) → layouts ≡ map.empty → AreDrawn accounts layouts
+none_drawn accounts layouts none account number runs there =
+    let clash : None ≡ Some runs = sym (no_blob_at account number) ∙ ap (λ (l : Layouts). at_blob l account number) (sym none) ∙ there in
+    cc

@@ -86,34 +86,57 @@ short_fields events.Pass runs fit = omega arith
 short_fields (events.CreateVault name) runs fit = omega (arith, short_name name fit.0)
 short_fields (events.DeleteVault name) runs fit = omega (arith, short_name name fit.0)
 short_fields (events.Upload name size description leaves) runs fit =
-    let lists = short_lists leaves runs fit.1.1.1.0 in
-    let described = both (description_field.spell description) _ 65537 _ (short_description description fit.1.1.0) lists in
-    let sized = both (number_field.spell size) _ 8 _ (short_number size) described in
-    omega (arith, both (name_field.spell name) _ 256 _ (short_name name fit.0) sized)
+    let lists : List ℕ = leaves_field.spell leaves ++ runs_field.spell runs in
+    let n : ℕ = 8 + 32 * length leaves + 8 * length runs in
+    let described : length (description_field.spell description ++ lists) ≤ 65537 + n =
+    both (description_field.spell description) lists 65537 n (short_description description fit.1.1.0) (short_lists leaves runs fit.1.1.1.0) in
+    let sized : length (number_field.spell size ++ description_field.spell description ++ lists) ≤ 8 + (65537 + n) =
+    both (number_field.spell size) (description_field.spell description ++ lists) 8 (65537 + n) (short_number size) described in
+    let named : length (name_field.spell name ++ number_field.spell size ++ description_field.spell description ++ lists) ≤ 256 + (8 + (65537 + n)) =
+    both (name_field.spell name) (number_field.spell size ++ description_field.spell description ++ lists) 256 (8 + (65537 + n)) (short_name name fit.0) sized in
+    omega (arith, named)
 short_fields (events.DeleteArchive name archive) runs fit = omega (arith, short_numbered name archive fit.0)
 short_fields (events.BeginUpload name part_size description) runs fit =
-    let sized = both (number_field.spell part_size) (description_field.spell description) 8 65537 (short_number part_size) (short_description description fit.0.1.1) in
-    omega (arith, both (name_field.spell name) _ 256 _ (short_name name fit.0.0) sized)
+    let sized : length (number_field.spell part_size ++ description_field.spell description) ≤ 8 + 65537 =
+    both (number_field.spell part_size) (description_field.spell description) 8 65537 (short_number part_size) (short_description description fit.0.1.1) in
+    let named : length (name_field.spell name ++ number_field.spell part_size ++ description_field.spell description) ≤ 256 + (8 + 65537) =
+    both (name_field.spell name) (number_field.spell part_size ++ description_field.spell description) 256 (8 + 65537) (short_name name fit.0.0) sized in
+    omega (arith, named)
 short_fields (events.Part name upload index size leaves) runs fit =
-    let lists = short_lists leaves runs fit.1.1.1.1.0 in
-    let sized = both (number_field.spell size) _ 8 _ (short_number size) lists in
-    let placed = both (index_field.spell index) _ 4 _ (omega arith) sized in
-    let uploaded = both (number_field.spell upload) _ 8 _ (short_number upload) placed in
-    omega (arith, both (name_field.spell name) _ 256 _ (short_name name fit.0) uploaded)
+    let lists : List ℕ = leaves_field.spell leaves ++ runs_field.spell runs in
+    let n : ℕ = 8 + 32 * length leaves + 8 * length runs in
+    let sized : length (number_field.spell size ++ lists) ≤ 8 + n = both (number_field.spell size) lists 8 n (short_number size) (short_lists leaves runs fit.1.1.1.1.0) in
+    let placed : length (index_field.spell index ++ number_field.spell size ++ lists) ≤ 4 + (8 + n) =
+    both (index_field.spell index) (number_field.spell size ++ lists) 4 (8 + n) (omega arith) sized in
+    let uploaded : length (number_field.spell upload ++ index_field.spell index ++ number_field.spell size ++ lists) ≤ 8 + (4 + (8 + n)) =
+    both (number_field.spell upload) (index_field.spell index ++ number_field.spell size ++ lists) 8 (4 + (8 + n)) (short_number upload) placed in
+    let named : length (name_field.spell name ++ number_field.spell upload ++ index_field.spell index ++ number_field.spell size ++ lists) ≤ 256 + (8 + (4 + (8 + n))) =
+    both (name_field.spell name) (number_field.spell upload ++ index_field.spell index ++ number_field.spell size ++ lists) 256 (8 + (4 + (8 + n))) (short_name name fit.0) uploaded in
+    omega (arith, named)
 short_fields (events.Complete name upload) runs fit = omega (arith, short_numbered name upload fit.0)
 short_fields (events.Abort name upload) runs fit = omega (arith, short_numbered name upload fit.0)
 short_fields (events.BeginRetrieval name archive first end tier ready description) runs fit =
-    let timed = both (moment_field.spell ready) (description_field.spell description) 8 65537 (omega arith) (short_description description fit.0.1.1.1.1.1.1) in
-    let tiered = both (tier_field.spell tier) _ 1 _ (omega arith) timed in
-    let ended = both (number_field.spell end) _ 8 _ (short_number end) tiered in
-    let begun = both (number_field.spell first) _ 8 _ (short_number first) ended in
-    let named = both (number_field.spell archive) _ 8 _ (short_number archive) begun in
-    omega (arith, both (name_field.spell name) _ 256 _ (short_name name fit.0.0) named)
+    let a : List ℕ = moment_field.spell ready ++ description_field.spell description in
+    let b : List ℕ = tier_field.spell tier ++ a in
+    let c : List ℕ = number_field.spell end ++ b in
+    let d : List ℕ = number_field.spell first ++ c in
+    let e : List ℕ = number_field.spell archive ++ d in
+    let timed : length a ≤ 65545 = both (moment_field.spell ready) (description_field.spell description) 8 65537 (omega arith) (short_description description fit.0.1.1.1.1.1.1) in
+    let tiered : length b ≤ 65546 = both (tier_field.spell tier) a 1 65545 (omega arith) timed in
+    let ended : length c ≤ 65554 = both (number_field.spell end) b 8 65546 (short_number end) tiered in
+    let begun : length d ≤ 65562 = both (number_field.spell first) c 8 65554 (short_number first) ended in
+    let its : length e ≤ 65570 = both (number_field.spell archive) d 8 65562 (short_number archive) begun in
+    let named : length (name_field.spell name ++ e) ≤ 65826 = both (name_field.spell name) e 256 65570 (short_name name fit.0.0) its in
+    omega (arith, named)
 short_fields (events.BeginInventory name csv tier ready description) runs fit =
-    let timed = both (moment_field.spell ready) (description_field.spell description) 8 65537 (omega arith) (short_description description fit.0.1.1.1.1) in
-    let tiered = both (tier_field.spell tier) _ 1 _ (omega arith) timed in
-    let flagged = both (flag_field.spell csv) _ 1 _ (omega arith) tiered in
-    omega (arith, both (name_field.spell name) _ 256 _ (short_name name fit.0.0) flagged)
+    let a : List ℕ = moment_field.spell ready ++ description_field.spell description in
+    let b : List ℕ = tier_field.spell tier ++ a in
+    let c : List ℕ = flag_field.spell csv ++ b in
+    let timed : length a ≤ 65545 = both (moment_field.spell ready) (description_field.spell description) 8 65537 (omega arith) (short_description description fit.0.1.1.1.1) in
+    let tiered : length b ≤ 65546 = both (tier_field.spell tier) a 1 65545 (omega arith) timed in
+    let flagged : length c ≤ 65547 = both (flag_field.spell csv) b 1 65546 (omega arith) tiered in
+    let named : length (name_field.spell name ++ c) ≤ 65803 = both (name_field.spell name) c 256 65547 (short_name name fit.0.0) flagged in
+    omega (arith, named)
 short_fields (events.InitiateLock name policy) runs fit =
     omega (arith, both (name_field.spell name) (text_field.spell policy) 256 65537 (short_name name fit.0.0) (short_text policy fit.0.1))
 short_fields (events.CompleteLock name) runs fit = omega (arith, short_name name fit.0)
@@ -176,8 +199,8 @@ short_policy text policy e = at (nat_lt 20_480 (length text)) refl e
     at : (b : Bool) → nat_lt 20_480 (length text) ≡ b
         → (elim (cond {A = Result Policy PolicyFault} b (Err (TooLong (length text))) (policy_at (json_of text))) as (λ _. Option Policy) [ Ok found ↦ Some found | Err fault ↦ None ]) ≡ Some policy
         → length text < 2 ^ 16
-    at true is no = cc
-    at false is yes = grind (arith, nat_tests)
+    at true is there = cc
+    at false is there = grind (arith, nat_tests)
 
 -- an event without a body that fits has room
 pub plain_room : (a : AccountState) (m : ℕ) (e : Event) (p : AccountState × List ℕ) → after_event a m e ≡ Some p → body_in e ≡ None → EventHasRoom e []
@@ -198,4 +221,4 @@ plain_room a m (events.AbortLock name) p fits none = refl
 
 -- and comes with no bytes
 pub no_body : (e : Event) → body_in e ≡ None → IsBodyOf e []
-no_body e none = subst (λ (r : Option (ℕ × List (List ℕ))). elim r as (λ _. Type 0) [ None ↦ ([] ≡ []) | Some told ↦ (told.0 ≡ 0) × (told.1 ≡ leaves_of []) ]) (sym none) refl
+no_body e none = subst (λ (r : Option (ℕ × List (List ℕ))). elim r as (λ _. Type 0) [ None ↦ ◌≡◌ {A = List ℕ} [] [] | Some told ↦ (told.0 ≡ 0) × (told.1 ≡ leaves_of []) ]) (sym none) (refl {A = List ℕ} {x = []})

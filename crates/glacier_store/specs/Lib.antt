@@ -1,5 +1,6 @@
 pub mod Calls
 pub mod Changes
+pub mod Drawn
 pub mod Events
 pub mod Faults
 pub mod Held

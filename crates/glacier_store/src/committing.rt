@@ -49,9 +49,9 @@ fn record_frame(
 
 /// Takes blobs away, and gives their blocks back. It takes no memory.
 fn give_back(area: &mut BlobArea, account: &Account, numbers: &[u64])
-    requires apart { AreApart area.old.blobs }
     ensures blobs { area.new.blobs ≡ without_blobs area.old.blobs account.now numbers.now }
-    ensures rest { IsRest area.old.free area.old.blobs → IsRest area.new.free area.new.blobs }
+    ensures rest { AreApart area.old.blobs → IsRest area.old.free area.old.blobs →
+        IsRest area.new.free area.new.blobs }
 {
     for number in numbers {
         area.free_blob(account, *number);
@@ -72,8 +72,8 @@ fn append<D: Disk>(
     ensures accounts { IfOk result (λ done. done.accounts ≡ holding.accounts) }
     ensures blobs { IfOk result (λ done.
         done.area.blobs ≡ without_blobs holding.area.blobs account.now freed.now) }
-    ensures rest { IfOk result (λ done. IsRest holding.area.free holding.area.blobs
-        → IsRest done.area.free done.area.blobs) }
+    ensures rest { IfOk result (λ done. AreApart holding.area.blobs →
+        IsRest holding.area.free holding.area.blobs → IsRest done.area.free done.area.blobs) }
 
     ensures appends { IsTrue D.tells → Appends holding.journal.area holding.journal.length
         frame.now (D.told disk.old) (D.told disk.new) }

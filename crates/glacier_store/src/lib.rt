@@ -9,6 +9,7 @@ mod holding;
 pub mod holding_laws;
 mod keeping;
 pub mod laws;
+mod opening;
 mod replaying;
 mod store;
 mod streaming;

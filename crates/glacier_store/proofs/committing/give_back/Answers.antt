@@ -17,7 +17,7 @@ loop-number-preserved c =
     let gone = c.free_blob.ensures.blobs in
     record {
       blobs = ap (λ (m : Layouts). without_blobs m account (drop (i + 1) numbers)) gone ∙ without_next area.blobs account numbers i c.loop-number-test.true ∙ so_far.blobs;
-      apart = subst AreApart (sym gone) (apart_without area.blobs account number so_far.apart);
-      rest = λ before. subst (λ (m : Layouts). IsRest c.free_blob.new.self.free m) (sym gone)
-          (rest_without area.free area.blobs (so_far.rest before) so_far.apart account number c.free_blob.new.self.free c.free_blob.ensures.released.blocks_are);
+      apart = λ apart. subst AreApart (sym gone) (apart_without area.blobs account number (so_far.apart apart));
+      rest = λ apart before. subst (λ (m : Layouts). IsRest c.free_blob.new.self.free m) (sym gone)
+          (rest_without area.free area.blobs (so_far.rest apart before) (so_far.apart apart) account number c.free_blob.new.self.free c.free_blob.ensures.released.blocks_are);
     }

@@ -7,6 +7,6 @@ use Rattle.glacier_store.proofs.committing.give_back.Given as goal
 abbrev pub invariant-loop-number : goal.invariant-loop-number
 invariant-loop-number l = record {
   blobs : without_blobs l.area.blobs l.account (drop l.number-index l.numbers) ≡ without_blobs l.fn.area.blobs l.account l.numbers;
-  apart : AreApart l.area.blobs;
-  rest : IsRest l.fn.area.free l.fn.area.blobs → IsRest l.area.free l.area.blobs;
+  apart : AreApart l.fn.area.blobs → AreApart l.area.blobs;
+  rest : AreApart l.fn.area.blobs → IsRest l.fn.area.free l.fn.area.blobs → IsRest l.area.free l.area.blobs;
 }

@@ -1,4 +1,4 @@
-use Rattle.glacier_store.proofs.RecoverLemmas.{new_held, new_rest}
+use Rattle.glacier_store.proofs.RecoverLemmas.{new_held, new_rest, none_drawn}
 use Rattle.glacier_store.proofs.holding.Holding.create.Goals as goal
 
 pub returns-in-Ok-clause-founds : goal.returns-in-Ok-clause-founds
@@ -18,3 +18,6 @@ returns-in-Ok-clause-founds g c t =
       untouched = λ full. absurd (full made.empty);
       length = c.in-Ok.ensures.length;
     }
+
+pub invariant_of-result : goal.invariant_of-result
+invariant_of-result g c = record { drawn = none_drawn c.empty.result c.in_ok-area.area.blobs c.in_ok-area.ensures.blobs }

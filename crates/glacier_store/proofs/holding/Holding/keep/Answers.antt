@@ -1,4 +1,5 @@
-use Rattle.std.proofs.Common.{List, [], refl, sym, ap, subst, arith}
+use Rattle.std.proofs.Common.{◌≡◌, rules, Err, List, [], refl, sym, ap, subst, arith}
+use Rattle.std.specs.Prelude.{Result}
 use Rattle.glacier_extents.specs.declared.run.Run.{Run}
 use Rattle.glacier_records.specs.Room.{EventHasRoom}
 use Rattle.glacier_records.specs.Spells.{Spells}
@@ -12,6 +13,9 @@ use Rattle.glacier_store.specs.HoldingCalls.{event_at}
 use Rattle.glacier_store.proofs.EventOfLemmas.{no_new, none_open, rest_alone}
 use Rattle.glacier_store.proofs.KeepsLemmas.{kept_by_append, kept_without_memory}
 use Rattle.glacier_store.proofs.RoomLemmas.{no_body, no_leaf, plain_room}
+use Rattle.glacier_store.specs.declared.fault.StoreFault.{StoreFault}
+use Rattle.glacier_store.specs.declared.fault.StoreFault.TheVariants.{Memory}
+use Rattle.glacier_store.specs.declared.holding.Holding.{Holding}
 use Rattle.glacier_store.proofs.holding.Holding.keep.Goals as goal
 
 pub record_frame-requires-clause-room : goal.record_frame-requires-clause-room
@@ -24,9 +28,10 @@ record_frame-requires-clause-room g c =
 pub record_frame-requires-clause-leaves : goal.record_frame-requires-clause-leaves
 record_frame-requires-clause-leaves g c = omega (arith, no_leaf c.args.event.now c.requires.plain)
 
-pub returns-in_err-record_frame-clause-keeps : goal.returns-in_err-record_frame-clause-keeps
-returns-in_err-record_frame-clause-keeps g c t before event =
-    kept_without_memory (g.D.Disk.told c.args.disk.now) c.args.self.journal c.args.self.area [] before _ (g.met.D.Disk.lawful t c.args.disk.now)
+pub returns-in_err-frame-clause-keeps : goal.returns-in_err-frame-clause-keeps
+returns-in_err-frame-clause-keeps g c t before event =
+    let is : ◌≡◌ {A = Result Holding StoreFault} c.from_residual-in_err-frame.result (Err Memory) = search rules in
+    kept_without_memory (g.D.Disk.told c.args.disk.now) c.args.self.journal c.args.self.area [] before _ c.from_residual-in_err-frame.result is (g.met.D.Disk.lawful t c.args.disk.now)
 
 pub returns-clause-keeps : goal.returns-clause-keeps
 returns-clause-keeps g c t before event =
@@ -38,5 +43,5 @@ returns-clause-keeps g c t before event =
     (subst (λ (runs : List Run). Spells frame (record_of h runs)) c.new-runs.ensures c.in_ok-frame.ensures)
     (none_open area) (sym (no_leaf c.args.event.now c.requires.plain)) (no_body c.args.event.now c.requires.plain) refl
     area (sym (ap (λ new. with_new area.blobs c.args.account.now new) (no_new (account_in before.accounts c.args.account.now).counter c.args.event.now [] c.requires.plain)))
-    (rest_alone area.free area.blobs) (c.append.ensures.appends t) c.append.result (c.append.ensures.acknowledged t) c.append.ensures.accounts c.append.ensures.blobs
+    (λ apart. apart) (rest_alone area.free area.blobs) (c.append.ensures.appends t) c.append.result (c.append.ensures.acknowledged t) c.append.ensures.accounts c.append.ensures.blobs
     c.append.ensures.rest c.append.ensures.no_memory

@@ -1,17 +1,22 @@
-use Rattle.std.proofs.Common.{List, length, ◌∙◌, sym, ap, subst, arith}
+use Rattle.std.proofs.Common.{◌≡◌, rules, Err, List, length, ◌∙◌, sym, ap, subst, arith}
+use Rattle.std.specs.Prelude.{Result}
 use Rattle.glacier_extents.specs.declared.run.Run.{Run}
 use Rattle.glacier_extents.specs.FreeRuns.{blocks}
 use Rattle.glacier_bodies.specs.BlobAreas.{with_blob}
-use Rattle.glacier_bodies.specs.Stands.{Layouts}
+use Rattle.glacier_bodies.specs.Stands.{AreApart, Layouts}
 use Rattle.glacier_records.specs.Room.{EventHasRoom}
 use Rattle.glacier_records.specs.Spells.{Spells}
 use Rattle.glacier_replay.specs.Accounts.{account_in}
 use Rattle.glacier_replay.specs.Changes.{with_new}
 use Rattle.glacier_replay.specs.Made.{IsRest, record_of}
+use Rattle.glacier_replay.proofs.RestLemmas.{apart_with}
 use Rattle.glacier_store.specs.HoldingCalls.{event_at}
 use Rattle.glacier_store.proofs.EventOfLemmas.{its_new, rest_named}
 use Rattle.glacier_store.proofs.KeepsLemmas.{kept_by_append, kept_without_memory}
 use Rattle.glacier_store.proofs.RoomLemmas.{body_room, runs_few}
+use Rattle.glacier_store.specs.declared.fault.StoreFault.{StoreFault}
+use Rattle.glacier_store.specs.declared.fault.StoreFault.TheVariants.{Memory}
+use Rattle.glacier_store.specs.declared.holding.Holding.{Holding}
 use Rattle.glacier_store.proofs.holding.Holding.keep_body.Goals as goal
 
 pub record_frame-requires-clause-room : goal.record_frame-requires-clause-room
@@ -26,13 +31,15 @@ pub record_frame-requires-clause-runs : goal.record_frame-requires-clause-runs
 record_frame-requires-clause-runs g c =
     omega (arith, ap (λ (runs : List Run). length runs) c.runs.ensures.runs, runs_few blocks c.args.layout c.requires.free.distinct, c.count.ensures.count, c.count.ensures.bound)
 
-pub returns-in_err-record_frame-clause-keeps : goal.returns-in_err-record_frame-clause-keeps
-returns-in_err-record_frame-clause-keeps g c t before body event counter its stored =
-    kept_without_memory (g.D.Disk.told c.args.disk.now) c.args.self.journal c.args.self.area c.args.layout before _ (g.met.D.Disk.lawful t c.args.disk.now)
+pub returns-in_err-frame-clause-keeps : goal.returns-in_err-frame-clause-keeps
+returns-in_err-frame-clause-keeps g c t before body event counter its stored =
+    let is : ◌≡◌ {A = Result Holding StoreFault} c.from_residual-in_err-frame.result (Err Memory) = search rules in
+    kept_without_memory (g.D.Disk.told c.args.disk.now) c.args.self.journal c.args.self.area c.args.layout before _ c.from_residual-in_err-frame.result is (g.met.D.Disk.lawful t c.args.disk.now)
 
 pub returns-in_err-name_blob-clause-keeps : goal.returns-in_err-name_blob-clause-keeps
 returns-in_err-name_blob-clause-keeps g c t before body event counter its stored =
-    kept_without_memory (g.D.Disk.told c.args.disk.now) c.args.self.journal c.args.self.area c.args.layout before _ (g.met.D.Disk.lawful t c.args.disk.now)
+    let is : ◌≡◌ {A = Result Holding StoreFault} c.from_residual-in_err-name_blob.result (Err Memory) = search rules in
+    kept_without_memory (g.D.Disk.told c.args.disk.now) c.args.self.journal c.args.self.area c.args.layout before _ c.from_residual-in_err-name_blob.result is (g.met.D.Disk.lawful t c.args.disk.now)
 
 pub returns-clause-keeps : goal.returns-clause-keeps
 returns-clause-keeps g c t before body event counter its stored =
@@ -41,7 +48,7 @@ returns-clause-keeps g c t before body event counter its stored =
     let area = c.args.self.area in
     let own = c.args.layout in
     let frame = c.in_ok-frame.frame in
-    let named = c.name_blob.new.area in
+    let named = c.name_blob.new.self in
     kept_by_append (g.D.Disk.told c.args.disk.now) (g.D.Disk.told c.append.new.disk) c.args.self.journal area own before h c.args.self.accounts c.args.freed.now frame
     (g.met.D.Disk.lawful t c.args.disk.now) event
     (subst (λ (runs : List Run). Spells frame (record_of h runs)) c.runs.ensures.runs c.in_ok-frame.ensures)
@@ -49,6 +56,7 @@ returns-clause-keeps g c t before body event counter its stored =
     (c.in_ok-name_blob.ensures.ok
     ∙ ap (λ n. with_blob area.blobs account n own) counter
     ∙ sym (ap (λ new. with_new area.blobs account new) (its_new (account_in before.accounts account).counter c.args.event.now own c.requires.body)))
+    (λ apart. subst AreApart (sym c.in_ok-name_blob.ensures.ok) (apart_with area.blobs account c.args.number own apart c.requires.free.distinct c.requires.free.unnamed))
     (λ beside. subst (λ (l : Layouts). IsRest named.free l) (sym c.in_ok-name_blob.ensures.ok)
     (subst (λ (f : List Run). IsRest f (with_blob area.blobs account c.args.number own)) (sym c.name_blob.ensures.free)
     (rest_named own area.free area.blobs account c.args.number c.requires.fresh beside)))

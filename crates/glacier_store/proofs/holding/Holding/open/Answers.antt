@@ -17,7 +17,7 @@ returns-in-Ok-replay_all-clause-recovers g c t =
     let restored = c.in-Ok-replay_all.restored in
     let made = subst (λ (l : List Payload). Makes (bytes_of l) restored.accounts restored.area.blobs) c.as_slice.ensures c.in-Ok-replay_all.ensures.made in
     recovered (g.D.Disk.told c.args.disk.now) (g.D.Disk.told c.open.new.disk) (c.open.ensures.opens t).looks
-    (record { accounts = restored.accounts; area = restored.area; journal = journal; settled = c.in-Ok-replay_all.ensures.settled })
+    _
     (bytes_of c.in-Ok.found.1) (c.in-Ok.ensures.listed t) made c.in-Ok-replay_all.ensures.rest (c.in-Ok.ensures.opens t).durable
 
 pub returns-in-Err-At-clause-recovers : goal.returns-in-Err-At-clause-recovers
