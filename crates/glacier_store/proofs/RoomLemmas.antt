@@ -86,32 +86,30 @@ short_fields events.Pass runs fit = omega arith
 short_fields (events.CreateVault name) runs fit = omega (arith, short_name name fit.0)
 short_fields (events.DeleteVault name) runs fit = omega (arith, short_name name fit.0)
 short_fields (events.Upload name size description leaves) runs fit =
-    let lists : List ℕ = leaves_field.spell leaves ++ runs_field.spell runs in
     let n : ℕ = 8 + 32 * length leaves + 8 * length runs in
-    let described : length (description_field.spell description ++ lists) ≤ 65537 + n =
-    both (description_field.spell description) lists 65537 n (short_description description fit.1.1.0) (short_lists leaves runs fit.1.1.1.0) in
-    let sized : length (number_field.spell size ++ description_field.spell description ++ lists) ≤ 8 + (65537 + n) =
-    both (number_field.spell size) (description_field.spell description ++ lists) 8 (65537 + n) (short_number size) described in
-    let named : length (name_field.spell name ++ number_field.spell size ++ description_field.spell description ++ lists) ≤ 256 + (8 + (65537 + n)) =
-    both (name_field.spell name) (number_field.spell size ++ description_field.spell description ++ lists) 256 (8 + (65537 + n)) (short_name name fit.0) sized in
+    let a : List ℕ = leaves_field.spell leaves ++ runs_field.spell runs in
+    let b : List ℕ = description_field.spell description ++ a in
+    let c : List ℕ = number_field.spell size ++ b in
+    let described : length b ≤ 65537 + n = both (description_field.spell description) a 65537 n (short_description description fit.1.1.0) (short_lists leaves runs fit.1.1.1.0) in
+    let sized : length c ≤ 8 + (65537 + n) = both (number_field.spell size) b 8 (65537 + n) (short_number size) described in
+    let named : length (name_field.spell name ++ c) ≤ 256 + (8 + (65537 + n)) = both (name_field.spell name) c 256 (8 + (65537 + n)) (short_name name fit.0) sized in
     omega (arith, named)
 short_fields (events.DeleteArchive name archive) runs fit = omega (arith, short_numbered name archive fit.0)
 short_fields (events.BeginUpload name part_size description) runs fit =
-    let sized : length (number_field.spell part_size ++ description_field.spell description) ≤ 8 + 65537 =
-    both (number_field.spell part_size) (description_field.spell description) 8 65537 (short_number part_size) (short_description description fit.0.1.1) in
-    let named : length (name_field.spell name ++ number_field.spell part_size ++ description_field.spell description) ≤ 256 + (8 + 65537) =
-    both (name_field.spell name) (number_field.spell part_size ++ description_field.spell description) 256 (8 + 65537) (short_name name fit.0.0) sized in
+    let a : List ℕ = number_field.spell part_size ++ description_field.spell description in
+    let sized : length a ≤ 65545 = both (number_field.spell part_size) (description_field.spell description) 8 65537 (short_number part_size) (short_description description fit.0.1.1) in
+    let named : length (name_field.spell name ++ a) ≤ 65801 = both (name_field.spell name) a 256 65545 (short_name name fit.0.0) sized in
     omega (arith, named)
 short_fields (events.Part name upload index size leaves) runs fit =
-    let lists : List ℕ = leaves_field.spell leaves ++ runs_field.spell runs in
     let n : ℕ = 8 + 32 * length leaves + 8 * length runs in
-    let sized : length (number_field.spell size ++ lists) ≤ 8 + n = both (number_field.spell size) lists 8 n (short_number size) (short_lists leaves runs fit.1.1.1.1.0) in
-    let placed : length (index_field.spell index ++ number_field.spell size ++ lists) ≤ 4 + (8 + n) =
-    both (index_field.spell index) (number_field.spell size ++ lists) 4 (8 + n) (omega arith) sized in
-    let uploaded : length (number_field.spell upload ++ index_field.spell index ++ number_field.spell size ++ lists) ≤ 8 + (4 + (8 + n)) =
-    both (number_field.spell upload) (index_field.spell index ++ number_field.spell size ++ lists) 8 (4 + (8 + n)) (short_number upload) placed in
-    let named : length (name_field.spell name ++ number_field.spell upload ++ index_field.spell index ++ number_field.spell size ++ lists) ≤ 256 + (8 + (4 + (8 + n))) =
-    both (name_field.spell name) (number_field.spell upload ++ index_field.spell index ++ number_field.spell size ++ lists) 256 (8 + (4 + (8 + n))) (short_name name fit.0) uploaded in
+    let a : List ℕ = leaves_field.spell leaves ++ runs_field.spell runs in
+    let b : List ℕ = number_field.spell size ++ a in
+    let c : List ℕ = index_field.spell index ++ b in
+    let d : List ℕ = number_field.spell upload ++ c in
+    let sized : length b ≤ 8 + n = both (number_field.spell size) a 8 n (short_number size) (short_lists leaves runs fit.1.1.1.1.0) in
+    let placed : length c ≤ 4 + (8 + n) = both (index_field.spell index) b 4 (8 + n) (omega arith) sized in
+    let uploaded : length d ≤ 8 + (4 + (8 + n)) = both (number_field.spell upload) c 8 (4 + (8 + n)) (short_number upload) placed in
+    let named : length (name_field.spell name ++ d) ≤ 256 + (8 + (4 + (8 + n))) = both (name_field.spell name) d 256 (8 + (4 + (8 + n))) (short_name name fit.0) uploaded in
     omega (arith, named)
 short_fields (events.Complete name upload) runs fit = omega (arith, short_numbered name upload fit.0)
 short_fields (events.Abort name upload) runs fit = omega (arith, short_numbered name upload fit.0)
@@ -221,4 +219,6 @@ plain_room a m (events.AbortLock name) p fits none = refl
 
 -- and comes with no bytes
 pub no_body : (e : Event) → body_in e ≡ None → IsBodyOf e []
-no_body e none = subst (λ (r : Option (ℕ × List (List ℕ))). elim r as (λ _. Type 0) [ None ↦ ◌≡◌ {A = List ℕ} [] [] | Some told ↦ (told.0 ≡ 0) × (told.1 ≡ leaves_of []) ]) (sym none) (refl {A = List ℕ} {x = []})
+no_body e none =
+    let bare : ◌≡◌ {A = List ℕ} [] [] = refl in
+    subst (λ (r : Option (ℕ × List (List ℕ))). elim r as (λ _. Type 0) [ None ↦ ◌≡◌ {A = List ℕ} [] [] | Some told ↦ (told.0 ≡ 0) × (told.1 ≡ leaves_of []) ]) (sym none) bare

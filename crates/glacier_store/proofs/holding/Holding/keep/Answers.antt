@@ -30,8 +30,8 @@ record_frame-requires-clause-leaves g c = omega (arith, no_leaf c.args.event.now
 
 pub returns-in_err-frame-clause-keeps : goal.returns-in_err-frame-clause-keeps
 returns-in_err-frame-clause-keeps g c t before event =
-    let is : ◌≡◌ {A = Result Holding StoreFault} c.from_residual-in_err-frame.result (Err Memory) = search rules in
-    kept_without_memory (g.D.Disk.told c.args.disk.now) c.args.self.journal c.args.self.area [] before _ c.from_residual-in_err-frame.result is (g.met.D.Disk.lawful t c.args.disk.now)
+    let is : ◌≡◌ {A = Result Holding StoreFault} c.from_residual.result (Err Memory) = search rules in
+    kept_without_memory (g.D.Disk.told c.args.disk.now) c.args.self.journal c.args.self.area [] before _ c.from_residual.result is (g.met.D.Disk.lawful t c.args.disk.now)
 
 pub returns-clause-keeps : goal.returns-clause-keeps
 returns-clause-keeps g c t before event =

@@ -10,8 +10,9 @@ use Rattle.glacier_replay.specs.Accounts.{account_in}
 use Rattle.glacier_replay.specs.Changes.{with_new}
 use Rattle.glacier_replay.specs.Made.{IsRest, record_of}
 use Rattle.glacier_replay.proofs.RestLemmas.{apart_with}
+use Rattle.glacier_store.specs.Drawn.{AreDrawn}
 use Rattle.glacier_store.specs.HoldingCalls.{event_at}
-use Rattle.glacier_store.proofs.EventOfLemmas.{its_new, rest_named}
+use Rattle.glacier_store.proofs.EventOfLemmas.{drawn_with, its_new, rest_named}
 use Rattle.glacier_store.proofs.KeepsLemmas.{kept_by_append, kept_without_memory}
 use Rattle.glacier_store.proofs.RoomLemmas.{body_room, runs_few}
 use Rattle.glacier_store.specs.declared.fault.StoreFault.{StoreFault}
@@ -31,10 +32,18 @@ pub record_frame-requires-clause-runs : goal.record_frame-requires-clause-runs
 record_frame-requires-clause-runs g c =
     omega (arith, ap (λ (runs : List Run). length runs) c.runs.ensures.runs, runs_few blocks c.args.layout c.requires.free.distinct, c.count.ensures.count, c.count.ensures.bound)
 
+pub invariant_of-append : goal.invariant_of-append
+invariant_of-append g c =
+    let held = c.args.self in
+    record {
+      drawn = subst (λ (l : Layouts). AreDrawn held.accounts l) (sym c.in_ok-name_blob.ensures.ok)
+          (drawn_with held.accounts held.area.blobs c.args.account.now c.args.number c.args.layout held.drawn c.requires.drawn);
+    }
+
 pub returns-in_err-frame-clause-keeps : goal.returns-in_err-frame-clause-keeps
 returns-in_err-frame-clause-keeps g c t before body event counter its stored =
-    let is : ◌≡◌ {A = Result Holding StoreFault} c.from_residual-in_err-frame.result (Err Memory) = search rules in
-    kept_without_memory (g.D.Disk.told c.args.disk.now) c.args.self.journal c.args.self.area c.args.layout before _ c.from_residual-in_err-frame.result is (g.met.D.Disk.lawful t c.args.disk.now)
+    let is : ◌≡◌ {A = Result Holding StoreFault} c.from_residual.result (Err Memory) = search rules in
+    kept_without_memory (g.D.Disk.told c.args.disk.now) c.args.self.journal c.args.self.area c.args.layout before _ c.from_residual.result is (g.met.D.Disk.lawful t c.args.disk.now)
 
 pub returns-in_err-name_blob-clause-keeps : goal.returns-in_err-name_blob-clause-keeps
 returns-in_err-name_blob-clause-keeps g c t before body event counter its stored =
