@@ -33,7 +33,9 @@ mod policy_tests;
 #[cfg(test)]
 mod record_tests;
 #[cfg(test)]
-mod restored_tests;
+mod replayed_tests;
+#[cfg(test)]
+mod restore_tests;
 #[cfg(test)]
 mod upload_calls;
 #[cfg(test)]
