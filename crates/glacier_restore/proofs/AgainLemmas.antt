@@ -98,6 +98,7 @@ module _ (a : AccountState) (lawful : IsLawful a) (name : List ℕ) (vault : Vau
           sum_by-empty nat_cmp (naming blob).archive,
           sum_by-empty nat_cmp (upload_total (naming blob)),
           sum_by-none (map.values (archives_made vault q).jobs),
+          sum_by-none (map.values (archives_made vault q).finished),
         )))
         (archive_put false k x drawn (apart_live k x is) (archives_made vault q) (map.len-empty nat_cmp _) none (map.get-empty nat_cmp k)))
 
@@ -111,6 +112,7 @@ module _ (a : AccountState) (lawful : IsLawful a) (name : List ℕ) (vault : Vau
           beside (naming blob).archive,
           sum_by-empty nat_cmp (upload_total (naming blob)),
           sum_by-none (map.values (held_made vault q).jobs),
+          sum_by-none (map.values (held_made vault q).finished),
         )))
         (archive_put true k x drawn (apart_held k x is) (held_made vault q) (map.len-empty nat_cmp _) dead none))
 
@@ -149,6 +151,7 @@ module _ (a : AccountState) (lawful : IsLawful a) (name : List ℕ) (vault : Vau
             sum_by-insert nat_cmp_total (upload_total w) q k (parts_made parts),
             ap (weight (upload_total w)) none,
             sum_by-none (map.values (uploads_made vault (map.insert q k (parts_made parts))).jobs),
+            sum_by-none (map.values (uploads_made vault (map.insert q k (parts_made parts))).finished),
           ))
           (omega arith)
 

@@ -1,5 +1,5 @@
 -- An account in one of whose vaults something is put.
-use Rattle.std.specs.Prelude.{◌≡◌, ℕ, ◌≤◌, ◌+◌, List, Some, IfSome}
+use Rattle.std.specs.Prelude.{◌≡◌, ℕ, ◌≤◌, ◌+◌, List, length, Some, IfSome}
 use Rattle.std.specs.Cmp.Lexicographic.{nat_list_cmp_total}
 use Rattle.std.specs.FinMap as map
 use Rattle.std.proofs.Common.{◌∙◌, sym, refl, subst, arith}
@@ -7,10 +7,12 @@ use Rattle.glacier_base.specs.Maps.{changed_at}
 use Rattle.glacier_base.proofs.Finite.{bytes_cmp-IsAntisymmetric}
 use Rattle.glacier_base.proofs.LookUps.{if_some-changed_at}
 use Rattle.glacier_vault.specs.Lawful.{IsLawful, IsLawfulVault}
+use Rattle.glacier_vault.specs.Lengths.{lengths, snapshot_length}
 use Rattle.glacier_vault.specs.Rows.{in_vault}
 use Rattle.glacier_vault.specs.Totals.{Vaults, Weight, vault_total, total, blocks, each_upload, each_job, naming, times_named, used_in, uploads_in, jobs_in}
 use Rattle.glacier_vault.specs.declared.state.AccountState.{AccountState}
 use Rattle.glacier_vault.specs.declared.state.VaultState.{VaultState}
+use Rattle.glacier_vault.proofs.LengthLemmas.{length-changed_at}
 use Rattle.glacier_vault.proofs.TotalsLemmas.{total-changed_at}
 
 -- what counts as gain names only blobs that were drawn and aren't named yet
@@ -18,11 +20,12 @@ pub record NamesNew (counter : ℕ) (vaults : Vaults) (gain : Weight → ℕ) (b
   pub once : times_named blob vaults + gain (naming blob) ≤ 1
   pub drawn : counter ≤ blob → gain (naming blob) ≡ 0
 
--- what the account's totals gain as f changes a vault
-pub record GrowsBy (a : AccountState) (name : List ℕ) (f : VaultState → VaultState) (more_used more_uploads more_jobs : ℕ) : Type 0 where
+-- what the account's totals and its snapshot's length gain as f changes a vault
+pub record GrowsBy (a : AccountState) (name : List ℕ) (f : VaultState → VaultState) (more_used more_uploads more_jobs more_length : ℕ) : Type 0 where
   pub used : a.used + more_used ≡ used_in (changed_at f a.vaults name)
   pub uploads : a.uploads + more_uploads ≡ uploads_in (changed_at f a.vaults name)
   pub jobs : a.jobs + more_jobs ≡ jobs_in (changed_at f a.vaults name)
+  pub longer : a.length + more_length ≡ snapshot_length (changed_at f a.vaults name)
 
 module _ (a : AccountState) (lawful : IsLawful a) where
   -- a gain that names no blob
@@ -34,16 +37,32 @@ module _ (a : AccountState) (lawful : IsLawful a) where
     pub right_vault : IsLawfulVault a.counter a.last vault
     right_vault = subst (λ r. IfSome r (IsLawfulVault a.counter a.last)) there (lawful.vaults name)
 
-    module _ (f : VaultState → VaultState) (gain : Weight → ℕ) (grows : (w : Weight) → vault_total w (f vault) ≡ vault_total w vault + gain w) where
-      total-grown : (w : Weight) → total w (changed_at f a.vaults name) ≡ total w a.vaults + gain w
-      total-grown w = omega (arith, total-changed_at w a.vaults name vault there f, grows w)
+    total-grown : (f : VaultState → VaultState) (w : Weight) (n : ℕ) → vault_total w (f vault) ≡ vault_total w vault + n → total w (changed_at f a.vaults name) ≡ total w a.vaults + n
+    total-grown f w n grows = omega (arith, total-changed_at w a.vaults name vault there f, grows)
 
-      pub grown : GrowsBy a name f (gain blocks) (gain each_upload) (gain each_job)
-      grown = record {
-        used = omega (arith, lawful.used, total-grown blocks);
-        uploads = omega (arith, lawful.uploads, total-grown each_upload);
-        jobs = omega (arith, lawful.jobs, total-grown each_job);
+    module _ (f : VaultState → VaultState) where
+      -- by these numbers
+      pub grown_each : (used uploads jobs longer : ℕ)
+          → vault_total blocks (f vault) ≡ vault_total blocks vault + used
+          → vault_total each_upload (f vault) ≡ vault_total each_upload vault + uploads
+          → vault_total each_job (f vault) ≡ vault_total each_job vault + jobs
+          → vault_total (lengths (length name)) (f vault) ≡ vault_total (lengths (length name)) vault + longer
+          → GrowsBy a name f used uploads jobs longer
+      grown_each used uploads jobs longer of_used of_uploads of_jobs of_length = record {
+        used = omega (arith, lawful.used, total-grown f blocks used of_used);
+        uploads = omega (arith, lawful.uploads, total-grown f each_upload uploads of_uploads);
+        jobs = omega (arith, lawful.jobs, total-grown f each_job jobs of_jobs);
+        longer = omega (arith, lawful.length, length-changed_at a.vaults name vault there f, of_length);
       }
+
+      -- by what each weight gains
+      pub grown : (gain : Weight → ℕ) → ((w : Weight) → vault_total w (f vault) ≡ vault_total w vault + gain w)
+          → GrowsBy a name f (gain blocks) (gain each_upload) (gain each_job) (gain (lengths (length name)))
+      grown gain grows = grown_each (gain blocks) (gain each_upload) (gain each_job) (gain (lengths (length name))) (grows blocks) (grows each_upload) (grows each_job) (grows (lengths (length name)))
+
+    module _ (f : VaultState → VaultState) (gain : Weight → ℕ) (names : (blob : ℕ) → vault_total (naming blob) (f vault) ≡ vault_total (naming blob) vault + gain (naming blob)) where
+      names-grown : (blob : ℕ) → times_named blob (changed_at f a.vaults name) ≡ times_named blob a.vaults + gain (naming blob)
+      names-grown blob = omega (arith, total-changed_at (naming blob) a.vaults name vault there f, names blob)
 
       pub lawful-grown : IsLawfulVault a.counter a.last (f vault) → ((blob : ℕ) → NamesNew a.counter a.vaults gain blob) → IsLawful (in_vault a a.last name f)
       lawful-grown right new = record {
@@ -53,8 +72,9 @@ module _ (a : AccountState) (lawful : IsLawful a) where
         uploads = refl;
         jobs = refl;
         due = refl;
+        length = refl;
         blobs = λ blob. record {
-          once = omega (arith, total-grown (naming blob), (new blob).once);
-          drawn = λ high. omega (arith, total-grown (naming blob), (lawful.blobs blob).drawn high, (new blob).drawn high);
+          once = omega (arith, names-grown blob, (new blob).once);
+          drawn = λ high. omega (arith, names-grown blob, (lawful.blobs blob).drawn high, (new blob).drawn high);
         };
       }

@@ -1,30 +1,50 @@
 -- A lawful vault of which an open upload takes a part in, or a job a line.
-use Rattle.std.specs.Prelude.{◌≡◌, ℕ, ◌+◌, Bool, true, false, cond, Option, Some, None, IfSome}
+use Rattle.std.specs.Prelude.{◌≡◌, ℕ, ◌+◌, Bool, true, false, cond, List, [], Option, Some, None, IfSome}
 use Rattle.std.specs.Cmp.{nat_cmp_total}
 use Rattle.std.specs.FinMap as map
 use Rattle.std.specs.Option.{option_map}
 use Rattle.std.specs.Ordering.{nat_cmp, eq_by_cmp}
-use Rattle.std.proofs.Common.{◌∙◌, ap, sym, subst, arith}
+use Rattle.std.proofs.Common.{◌∙◌, ap, sym, refl, subst, arith}
 use Rattle.std.proofs.lemmas.Bool.{and_parts}
+use Rattle.std.proofs.lemmas.List.Sums.{sum_by_push}
 use Rattle.glacier_base.proofs.Changed.{get-changed_at}
 use Rattle.glacier_base.proofs.LookUps.{if_some-insert, if_some-changed_at}
 use Rattle.glacier_base.proofs.Sums.{weight, sum_by-insert, sum_by-changed_at}
 use Rattle.glacier_vault.specs.Lawful.{IsLawfulBody, IsLawfulPart, IsLawfulUpload, IsLawfulJob, IsLawfulWork, IsLawfulVault, IsDrawn}
+use Rattle.glacier_vault.specs.Lengths.{lengths, line_length, lines_length, job_length}
 use Rattle.glacier_vault.specs.Totals.{Weight, vault_total, upload_total}
 use Rattle.glacier_vault.specs.declared.archive.Part.{Part}
 use Rattle.glacier_vault.specs.declared.archive.Upload.{Upload}
 use Rattle.glacier_vault.specs.declared.job.Job.{Job}
 use Rattle.glacier_vault.specs.declared.job.Line.{Line}
 use Rattle.glacier_vault.specs.declared.job.Stage.{Stage}
+use Rattle.glacier_vault.specs.declared.job.Stage.TheVariants as stages
 use Rattle.glacier_vault.specs.declared.job.Work.{Work}
 use Rattle.glacier_vault.specs.declared.job.Work.TheVariants as works
 use Rattle.glacier_vault.specs.declared.state.AccountState.{AccountState}
 use Rattle.glacier_vault.specs.declared.state.VaultState.{VaultState}
 use Rattle.glacier_restore.specs.Fitting.{takes_part, takes_line}
-use Rattle.glacier_restore.specs.Putting.{with_part, in_upload, with_line, in_job}
+use Rattle.glacier_restore.specs.Putting.{with_part, in_upload, one_line_more, with_line, in_job}
+use Rattle.glacier_restore.specs.Snapshot.{lines_of}
 use Rattle.glacier_restore.proofs.MomentLemmas.{content_due-line}
 use Rattle.glacier_restore.proofs.NamedLemmas.{not_true}
 use Rattle.glacier_restore.proofs.VaultLemmas.{le_of, none_there, right_uploads, right_jobs}
+
+-- what has no lines has no bytes of lines
+pub lines_length-none : (n : ℕ) (stage : Stage) → lines_of stage ≡ [] → lines_length n stage ≡ 0
+lines_length-none n stages.Waiting none = refl
+lines_length-none n stages.Failed none = refl
+lines_length-none n (stages.Done lines) none = ap (λ l. lines_length n (stages.Done l)) none
+
+-- an inventory that takes a line in is so much longer
+lines_longer : (n : ℕ) (line : Line) (work : Work) (stage : Stage) → takes_line line work stage ≡ true → lines_length n (one_line_more line stage) ≡ lines_length n stage + line_length n line
+lines_longer n line (works.Archive archive size tree first end range) stage takes = cc
+lines_longer n line (works.Inventory csv) stages.Waiting takes = cc
+lines_longer n line (works.Inventory csv) stages.Failed takes = cc
+lines_longer n line (works.Inventory csv) (stages.Done lines) takes = sum_by_push (line_length n) lines line
+
+job_longer : (n : ℕ) (line : Line) (job : Job) → takes_line line job.work job.stage ≡ true → job_length n (with_line line job) ≡ job_length n job + line_length n line
+job_longer n line job takes = omega (arith, lines_longer n line job.work job.stage takes)
 
 module _ (a : AccountState) (vault : VaultState) (lawful : IsLawfulVault a.counter a.last vault) (number : ℕ) where
   module _ (upload : Upload) (is_open : map.get vault.uploads number ≡ Some upload) (index : ℕ) (part : Part) (takes : takes_part a index part upload ≡ true) where
@@ -60,9 +80,10 @@ module _ (a : AccountState) (vault : VaultState) (lawful : IsLawfulVault a.count
           none true r e = ap (option_map (with_part index part)) e
           none false r e = e
 
-    pub part_grows : (w : Weight) → vault_total w (in_upload number index part vault) ≡ vault_total w vault + w.part part
-    part_grows w =
-        let more : upload_total w (with_part index part upload) ≡ upload_total w upload + w.part part = omega (arith, sum_by-insert nat_cmp_total w.part upload.parts index part, ap (weight w.part) none_at) in
+    -- by a weight for which the upload counts as before
+    pub part_grows : (w : Weight) → w.upload (with_part index part upload) ≡ w.upload upload → vault_total w (in_upload number index part vault) ≡ vault_total w vault + w.part part
+    part_grows w same =
+        let more : upload_total w (with_part index part upload) ≡ upload_total w upload + w.part part = omega (arith, same, sum_by-insert nat_cmp_total w.part upload.parts index part, ap (weight w.part) none_at) in
         omega (arith, more, sum_by-changed_at nat_cmp_total (upload_total w) map.nat_cmp-IsAntisymmetric vault.uploads number (with_part index part) upload is_open)
 
   module _ (job : Job) (there : map.get vault.jobs number ≡ Some job) (line : Line) where
@@ -83,5 +104,12 @@ module _ (a : AccountState) (vault : VaultState) (lawful : IsLawfulVault a.count
           (λ n. if_some-changed_at nat_cmp_total map.nat_cmp-IsAntisymmetric (IsDrawn a.counter (IsLawfulJob a.counter a.last vault.archives vault.held)) vault.jobs number n (with_line line)
           (λ v e. subst (λ r. IfSome r (λ v. IsDrawn a.counter (IsLawfulJob a.counter a.last vault.archives vault.held) number (with_line line v))) (sym there ∙ e) job_after) (lawful.jobs n))
 
-    pub line_grows : (w : Weight) → vault_total w (in_job number line vault) ≡ vault_total w vault + 0
-    line_grows w = omega (arith, sum_by-changed_at nat_cmp_total (λ (j : Job). w.job) map.nat_cmp-IsAntisymmetric vault.jobs number (with_line line) job there)
+    line_balance : (w : Weight) → vault_total w (in_job number line vault) + w.job job ≡ vault_total w vault + w.job (with_line line job)
+    line_balance w = omega (arith, sum_by-changed_at nat_cmp_total w.job map.nat_cmp-IsAntisymmetric vault.jobs number (with_line line) job there)
+
+    -- by a weight for which the job counts as before
+    pub line_same : (w : Weight) → w.job (with_line line job) ≡ w.job job → vault_total w (in_job number line vault) ≡ vault_total w vault + 0
+    line_same w same = omega (arith, same, line_balance w)
+
+    pub line_longer : (n : ℕ) → takes_line line job.work job.stage ≡ true → vault_total (lengths n) (in_job number line vault) ≡ vault_total (lengths n) vault + line_length n line
+    line_longer n takes = omega (arith, line_balance (lengths n), job_longer n line job takes)

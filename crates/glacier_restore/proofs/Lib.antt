@@ -4,6 +4,7 @@ pub mod CountLemmas
 pub mod EachLemmas
 pub mod GrownLemmas
 pub mod InsideLemmas
+pub mod ItemLengths
 pub mod JobsAgain
 pub mod MomentLemmas
 pub mod NamedLemmas

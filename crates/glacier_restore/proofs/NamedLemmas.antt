@@ -12,7 +12,7 @@ use Rattle.glacier_vault.specs.declared.archive.Part.{Part}
 use Rattle.glacier_vault.specs.declared.archive.Upload.{Upload}
 use Rattle.glacier_vault.specs.declared.state.AccountState.{AccountState}
 use Rattle.glacier_vault.specs.declared.state.VaultState.{VaultState}
-use Rattle.glacier_vault.proofs.TotalsLemmas.{sum_by-none}
+use Rattle.glacier_vault.proofs.TotalsLemmas.{sum_by-zero, lock_total-zero}
 use Rattle.glacier_restore.specs.Fitting.{are_apart}
 use Rattle.glacier_restore.specs.Restoring.{archive_names, upload_names, vault_names, is_named, numbers_of}
 use Rattle.glacier_records.specs.declared.kept.Blob.{Blob}
@@ -57,7 +57,9 @@ module _ (blob : ℕ) where
         none_counts (archive_names blob) (naming blob).archive archive_counts (map.values vault.archives) archives.0,
         none_counts (archive_names blob) (naming blob).archive archive_counts (map.values vault.held) archives.1,
         none_counts (upload_names blob) (upload_total (naming blob)) upload_counts (map.values vault.uploads) uploads.1,
-        sum_by-none (map.values vault.jobs),
+        sum_by-zero (naming blob).finished (λ finished. refl) (map.values vault.finished),
+        sum_by-zero (naming blob).job (λ job. refl) (map.values vault.jobs),
+        lock_total-zero (naming blob) (λ lock. refl) vault.lock,
       )
 
   -- so a blob that isn't named

@@ -7,12 +7,15 @@ use Rattle.std.proofs.Common.{◌∙◌, ap, sym, refl, subst}
 use Rattle.glacier_base.proofs.Finite.{bytes_cmp-IsAntisymmetric}
 use Rattle.glacier_extents.specs.declared.run.Run.{Run}
 use Rattle.glacier_vault.specs.Account.{empty_account, new_vault}
+use Rattle.glacier_vault.specs.Due.{due_in}
 use Rattle.glacier_vault.specs.Lawful.{IsLawful, IsLawfulVault}
+use Rattle.glacier_vault.specs.Lengths.{snapshot_length}
 use Rattle.glacier_vault.specs.Totals.{Vaults, vault_total, blocks, each_upload, each_job, used_in, uploads_in, jobs_in}
 use Rattle.glacier_vault.specs.declared.archive.Archive.{Archive}
 use Rattle.glacier_vault.specs.declared.state.AccountState.{AccountState}
 use Rattle.glacier_vault.specs.declared.state.VaultState.{VaultState}
 use Rattle.glacier_vault.proofs.DueLemmas.{due_in-empty, content_due-new_vault}
+use Rattle.glacier_vault.proofs.LengthLemmas.{length-empty}
 use Rattle.glacier_vault.proofs.TotalsLemmas.{sum_by-empty}
 use Rattle.glacier_records.specs.declared.kept.Kept.TheVariants as kept
 use Rattle.glacier_restore.specs.Moments.{with_due}
@@ -57,12 +60,13 @@ module _ (runs : ℕ → List Run) (a : AccountState) (lawful : IsLawful a) wher
 
   account_put : put empty_account a.last (kept.Account a.counter) ≡ Some (account_of a.last a.counter map.empty)
   account_put =
-      let begun : ℕ → ℕ → ℕ → Option ℕ → AccountState = λ used uploads jobs due. record { last = a.last; counter = a.counter; vaults = map.empty; used = used; uploads = uploads; jobs = jobs; due = due } in
-      ap (λ n. where_fits (nat_eq n 0) (begun 0 0 0 None)) (map.len-empty (slice_cmp nat_cmp) VaultState)
-      ∙ ap (λ n. Some (begun n 0 0 None)) (sym (sum_by-empty (slice_cmp nat_cmp) (vault_total blocks)))
-      ∙ ap (λ n. Some (begun (used_in map.empty) n 0 None)) (sym (sum_by-empty (slice_cmp nat_cmp) (vault_total each_upload)))
-      ∙ ap (λ n. Some (begun (used_in map.empty) (uploads_in map.empty) n None)) (sym (sum_by-empty (slice_cmp nat_cmp) (vault_total each_job)))
-      ∙ ap (λ due. Some (begun (used_in map.empty) (uploads_in map.empty) (jobs_in map.empty) due)) (sym due_in-empty)
+      let begun : ℕ → ℕ → ℕ → Option ℕ → ℕ → AccountState = λ used uploads jobs due length. record { last = a.last; counter = a.counter; vaults = map.empty; used = used; uploads = uploads; jobs = jobs; due = due; length = length } in
+      ap (λ n. where_fits (nat_eq n 0) (begun 0 0 0 None 34)) (map.len-empty (slice_cmp nat_cmp) VaultState)
+      ∙ ap (λ n. Some (begun n 0 0 None 34)) (sym (sum_by-empty (slice_cmp nat_cmp) (vault_total blocks)))
+      ∙ ap (λ n. Some (begun (used_in map.empty) n 0 None 34)) (sym (sum_by-empty (slice_cmp nat_cmp) (vault_total each_upload)))
+      ∙ ap (λ n. Some (begun (used_in map.empty) (uploads_in map.empty) n None 34)) (sym (sum_by-empty (slice_cmp nat_cmp) (vault_total each_job)))
+      ∙ ap (λ due. Some (begun (used_in map.empty) (uploads_in map.empty) (jobs_in map.empty) due 34)) (sym due_in-empty)
+      ∙ ap (λ length. Some (begun (used_in map.empty) (uploads_in map.empty) (jobs_in map.empty) (due_in map.empty) length)) (sym length-empty)
 
   -- its totals are those of its vaults
   totals_again : account_of a.last a.counter a.vaults ≡ a
@@ -70,7 +74,8 @@ module _ (runs : ℕ → List Run) (a : AccountState) (lawful : IsLawful a) wher
       ap (λ used. record (account_of a.last a.counter a.vaults) { used = used }) (sym lawful.used)
       ∙ ap (λ uploads. record (account_of a.last a.counter a.vaults) { used = a.used; uploads = uploads }) (sym lawful.uploads)
       ∙ ap (λ jobs. record (account_of a.last a.counter a.vaults) { used = a.used; uploads = a.uploads; jobs = jobs }) (sym lawful.jobs)
-      ∙ ap (λ due. record a { due = due }) (sym lawful.due)
+      ∙ ap (λ due. record a { due = due; length = snapshot_length a.vaults }) (sym lawful.due)
+      ∙ ap (λ length. record a { length = length }) (sym lawful.length)
 
   pub account_again : IsSound a → put_all empty_account (snapshot_items runs a) ≡ Some a
   account_again sound =

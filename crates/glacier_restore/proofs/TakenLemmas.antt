@@ -1,5 +1,5 @@
 -- A lawful vault that takes something in.
-use Rattle.std.specs.Prelude.{◌≡◌, ℕ, ◌≤◌, ◌+◌, Bool, true, false, not, ◌||◌, Option, Some, None, IfSome, IsSome, IsTrue, is_some, sum_by}
+use Rattle.std.specs.Prelude.{◌≡◌, ℕ, ◌≤◌, ◌+◌, Bool, true, false, not, ◌||◌, Option, Some, None, IfSome, IsSome, IsTrue, is_some, is_none, sum_by}
 use Rattle.std.specs.Cmp.{nat_cmp_total}
 use Rattle.std.specs.FinMap as map
 use Rattle.std.specs.Ordering.{nat_cmp}
@@ -9,7 +9,7 @@ use Rattle.glacier_base.proofs.LookUps.{if_some-empty, if_some-insert}
 use Rattle.glacier_base.proofs.Sums.{weight, sum_by-insert}
 use Rattle.glacier_vault.specs.Lawful.{IsLawfulBody, IsLawfulArchive, IsLawfulPart, IsLawfulUpload, IsLawfulJob, IsLawfulWork, IsLawfulLock, IsLawfulVault, IsDrawn}
 use Rattle.glacier_vault.specs.Named.{is_done}
-use Rattle.glacier_vault.specs.Totals.{Weight, vault_total, upload_total}
+use Rattle.glacier_vault.specs.Totals.{Weight, vault_total, upload_total, lock_total}
 use Rattle.glacier_vault.specs.declared.archive.Archive.{Archive}
 use Rattle.glacier_vault.specs.declared.archive.Finished.{Finished}
 use Rattle.glacier_vault.specs.declared.archive.Upload.{Upload}
@@ -80,9 +80,9 @@ module _ (a : AccountState) (vault : VaultState) (lawful : IsLawfulVault a.count
           (λ n. if_some-insert nat_cmp_total map.nat_cmp-IsAntisymmetric (IsDrawn a.counter (IsLawfulUpload a.last)) vault.uploads number n upload upload_parts.0 (lawful.uploads n))
           (stays_apart vault.uploads vault.finished number upload upload_parts.1.1 lawful.open_or_finished)
 
-      pub upload_grows : (w : Weight) → vault_total w (with_upload number upload vault) ≡ vault_total w vault + w.upload
+      pub upload_grows : (w : Weight) → vault_total w (with_upload number upload vault) ≡ vault_total w vault + w.upload upload
       upload_grows w =
-          let alone : upload_total w upload ≡ w.upload = omega (arith, ap (λ m. sum_by w.part (map.values m)) bare, sum_by-empty nat_cmp w.part) in
+          let alone : upload_total w upload ≡ w.upload upload = omega (arith, ap (λ m. sum_by w.part (map.values m)) bare, sum_by-empty nat_cmp w.part) in
           omega (arith, alone, sum_by-insert nat_cmp_total (upload_total w) vault.uploads number upload, ap (weight (upload_total w)) upload_parts.1.0)
 
     module _ (finished : Finished) (takes : takes_finished a number finished vault ≡ true) where
@@ -105,6 +105,11 @@ module _ (a : AccountState) (vault : VaultState) (lawful : IsLawfulVault a.count
             lock = lawful.lock;
             due = refl;
           }
+
+      pub finished_grows : (w : Weight) → vault_total w (with_finished number finished vault) ≡ vault_total w vault + w.finished finished
+      finished_grows w =
+          let none : map.get vault.finished number ≡ None = none_there _ (neither _ _ (not_true _ (and_parts _ _ takes).1)).1 in
+          omega (arith, sum_by-insert nat_cmp_total w.finished vault.finished number finished, ap (weight w.finished) none)
 
     module _ (job : Job) (takes : takes_job a number job vault ≡ true) where
       job_parts : ((is_past a job.created number ≡ true) × (is_work a vault job.stage job.work ≡ true)) × (map.get vault.jobs number ≡ None)
@@ -143,10 +148,16 @@ module _ (a : AccountState) (vault : VaultState) (lawful : IsLawfulVault a.count
           (λ n. if_some-insert nat_cmp_total map.nat_cmp-IsAntisymmetric (IsDrawn a.counter (IsLawfulJob a.counter a.last vault.archives vault.held)) vault.jobs number n job
           (record { drawn = lt_of _ _ past.0; right = record { created = le_of _ _ past.1; work = right_work job.work job_parts.0.1 } }) (lawful.jobs n))
 
-      pub job_grows : (w : Weight) → vault_total w (with_job number job vault) ≡ vault_total w vault + w.job
-      job_grows w =
-          let one = λ (j : Job). w.job in
-          omega (arith, sum_by-insert nat_cmp_total one vault.jobs number job, ap (weight one) job_parts.1)
+      pub job_grows : (w : Weight) → vault_total w (with_job number job vault) ≡ vault_total w vault + w.job job
+      job_grows w = omega (arith, sum_by-insert nat_cmp_total w.job vault.jobs number job, ap (weight w.job) job_parts.1)
+
+  -- where there is no lock none counts
+  no_lock_counts : (w : Weight) (lock : Option Lock) → is_none lock ≡ true → lock_total w lock ≡ 0
+  no_lock_counts w None free = refl
+  no_lock_counts w (Some lock) free = cc
+
+  pub lock_grows : (lock : Lock) → is_none vault.lock ≡ true → (w : Weight) → vault_total w (with_lock lock vault) ≡ vault_total w vault + w.lock lock
+  lock_grows lock free w = omega (arith, no_lock_counts w vault.lock free)
 
   pub right_with_lock : (lock : Lock) → IsLawfulLock a.counter a.last lock → IsLawfulVault a.counter a.last (with_lock lock vault)
   right_with_lock lock right = record {

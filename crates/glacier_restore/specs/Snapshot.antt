@@ -1,5 +1,5 @@
 -- The items of an account's part of a snapshot in their order, and what items make one after another (docs/rules/snapshots.md).
-use Rattle.std.specs.Prelude.{ℕ, false, true, List, [], ◌∷◌, ◌++◌, Option, Some, None, map as each}
+use Rattle.std.specs.Prelude.{ℕ, false, true, List, [], ◌∷◌, ◌++◌, Option, Some, None, sum_by, map as each}
 use Rattle.std.specs.FinMap as map
 use Rattle.std.specs.List.{flat_map}
 use Rattle.std.specs.declared.cmp.Ordering.{Ordering}
@@ -15,6 +15,7 @@ use Rattle.glacier_vault.specs.declared.job.Stage.TheVariants as stages
 use Rattle.glacier_vault.specs.declared.lock.Lock.{Lock}
 use Rattle.glacier_vault.specs.declared.state.AccountState.{AccountState}
 use Rattle.glacier_vault.specs.declared.state.VaultState.{VaultState}
+use Rattle.glacier_records.specs.KeptLengths.{kept_length}
 use Rattle.glacier_records.specs.declared.kept.Blob.{Blob}
 use Rattle.glacier_records.specs.declared.kept.Kept.{Kept}
 use Rattle.glacier_records.specs.declared.kept.Kept.TheVariants as kept
@@ -25,6 +26,10 @@ use Rattle.glacier_restore.specs.Restoring.{restored}
 -- items, each with its moment
 abbrev pub Items : Type 0
 Items = List (ℕ × Kept)
+
+-- how many bytes their records take in a journal, where runs count for nothing
+abbrev pub items_length : Items → ℕ
+items_length items = sum_by (λ item. kept_length item.1) items
 
 -- what items make of an account one after another, or None where one doesn't fit
 abbrev pub put_all : AccountState → Items → Option AccountState

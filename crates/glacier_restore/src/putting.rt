@@ -10,7 +10,8 @@ use crate::fitting;
 use glacier_base::{Memory, Moment, VaultName};
 use glacier_vault::{
     AccountState, Archive, Finished, Lock, Part, Upload, VaultState, blocks_of, finished_due,
-    lock_due, sooner,
+    length_with_archive, length_with_finished, length_with_lock, length_with_part,
+    length_with_upload, lock_due, name_length, sooner, vault_length,
 };
 use std::alloc::Global;
 
@@ -27,7 +28,8 @@ pub(crate) fn put_account(state: &mut AccountState, m: Moment, counter: u64) -> 
     true
 }
 
-/// Puts an empty vault that was made at the moment `m` into an account.
+/// Puts an empty vault that was made at the moment `m` into an account. A length that is no `u64` is
+/// want of memory.
 pub(crate) fn put_vault(
     alloc: Global,
     state: &mut AccountState,
@@ -44,7 +46,11 @@ pub(crate) fn put_vault(
     if m > state.last {
         return Ok(false);
     }
+    let Some(length) = state.length.checked_add(vault_length(name)) else {
+        return Err(Memory);
+    };
     state.vaults.insert(*name, VaultState::new(alloc, m))?;
+    state.length = length;
     Ok(true)
 }
 
@@ -103,11 +109,15 @@ pub(crate) fn put_archive(
     let Some(used) = state.used.checked_add(blocks_of(archive.size)) else {
         return Err(Memory);
     };
+    let Some(length) = length_with_archive(state.length, name_length(name), &archive) else {
+        return Err(Memory);
+    };
     let Some(vault) = state.vaults.get_mut(name) else {
         unreachable!();
     };
     insert_archive(vault, held, number, archive)?;
     state.used = used;
+    state.length = length;
     state.due = due_behind(held, state.due);
     Ok(true)
 }
@@ -134,11 +144,15 @@ pub(crate) fn put_upload(
     let Some(uploads) = state.uploads.checked_add(1) else {
         return Err(Memory);
     };
+    let Some(length) = length_with_upload(state.length, name_length(name), &upload) else {
+        return Err(Memory);
+    };
     let Some(vault) = state.vaults.get_mut(name) else {
         unreachable!();
     };
     vault.uploads.insert(number, upload)?;
     state.uploads = uploads;
+    state.length = length;
     Ok(true)
 }
 
@@ -167,6 +181,9 @@ pub(crate) fn put_part(
     let Some(used) = state.used.checked_add(blocks_of(part.size)) else {
         return Err(Memory);
     };
+    let Some(length) = length_with_part(state.length, name_length(name), &part) else {
+        return Err(Memory);
+    };
     let Some(vault) = state.vaults.get_mut(name) else {
         unreachable!();
     };
@@ -175,6 +192,7 @@ pub(crate) fn put_part(
     };
     open.parts.insert(index, part)?;
     state.used = used;
+    state.length = length;
     Ok(true)
 }
 
@@ -208,32 +226,44 @@ pub(crate) fn put_finished(
     if !fitting::takes_finished(state, number, &finished, vault) {
         return Ok(false);
     }
+    let Some(length) = length_with_finished(state.length, name_length(name)) else {
+        return Err(Memory);
+    };
     let due = sooner(state.due, finished_due(&finished));
     let Some(vault) = state.vaults.get_mut(name) else {
         unreachable!();
     };
     insert_finished(vault, number, finished)?;
     state.due = due;
+    state.length = length;
     Ok(true)
 }
 
 /// Puts a lock into a vault.
-pub(crate) fn put_lock(state: &mut AccountState, name: &VaultName, lock: Lock) -> bool
+pub(crate) fn put_lock(
+    state: &mut AccountState,
+    name: &VaultName,
+    lock: Lock,
+) -> Result<bool, Memory>
     requires lawful { IsLawful state.old }
-    ensures fits { result ≡ is_some (put_lock state.old name.now lock) }
-    ensures state { state.new ≡ unwrap_or (put_lock state.old name.now lock) state.old }
+    ensures fits { IfOk result (λ fits. fits ≡ is_some (put_lock state.old name.now lock)) }
+    ensures state { OnOk result (state.new ≡ unwrap_or (put_lock state.old name.now lock) state.old) }
 {
     let Some(vault) = state.vaults.get(name) else {
-        return false;
+        return Ok(false);
     };
     if !fitting::takes_lock(state, &lock, vault) {
-        return false;
+        return Ok(false);
     }
+    let Some(length) = length_with_lock(state.length, name_length(name), &lock) else {
+        return Err(Memory);
+    };
     let Some(vault) = state.vaults.get_mut(name) else {
         unreachable!();
     };
     vault.lock = Some(lock);
     let due = lock_due(&vault.lock);
     state.due = sooner(state.due, due);
-    true
+    state.length = length;
+    Ok(true)
 }

@@ -1,13 +1,17 @@
 // Jobs of a snapshot and their lines, put into a vault.
-ghost use Rattle.std.specs.Prelude.{◌≡◌, IfOk, OnOk, is_some, unwrap_or, None, if◌then◌else◌};
+ghost use Rattle.std.specs.Prelude.{◌≡◌, [], IfOk, OnOk, is_some, unwrap_or, None, if◌then◌else◌};
 ghost use Rattle.std.specs.FinMap as map;
 ghost use Rattle.glacier_vault.specs.Due.{content_due, due_in, sooner};
 ghost use Rattle.glacier_vault.specs.Lawful.{IsLawful};
-ghost use Rattle.glacier_restore.specs.Putting.{put_job, put_line, with_job};
+ghost use Rattle.glacier_restore.specs.Putting.{put_job, put_line, with_job, with_line};
+ghost use Rattle.glacier_restore.specs.Snapshot.{lines_of};
 
 use crate::{fitting, moments};
 use glacier_base::{Memory, VaultName};
-use glacier_vault::{AccountState, Job, Line, Stage, VaultState, due_of_vaults, job_due, sooner};
+use glacier_vault::{
+    AccountState, Job, Line, Stage, VaultState, due_of_vaults, job_due, length_with_job,
+    length_with_line, name_length, sooner,
+};
 
 /// Puts a job at a number that a vault doesn't have. What is due among all that the vault holds is
 /// looked for again only where the job names an archive that is held.
@@ -38,7 +42,7 @@ fn due_with_job(state: &AccountState, names_held: bool, due: Option<u64>) -> Opt
     }
 }
 
-/// Puts a job into a vault.
+/// Puts a job that has no lines yet into a vault. A sum that is no `u64` is want of memory.
 pub(crate) fn put_job(
     state: &mut AccountState,
     name: &VaultName,
@@ -46,6 +50,7 @@ pub(crate) fn put_job(
     job: Job,
 ) -> Result<bool, Memory>
     requires lawful { IsLawful state.old }
+    requires bare { lines_of job.stage ≡ [] }
     ensures fits { IfOk result (λ fits. fits ≡ is_some (put_job state.old name.now number job)) }
     ensures state { OnOk result
         (state.new ≡ unwrap_or (put_job state.old name.now number job) state.old) }
@@ -59,6 +64,9 @@ pub(crate) fn put_job(
     let Some(jobs) = state.jobs.checked_add(1) else {
         return Err(Memory);
     };
+    let Some(length) = length_with_job(state.length, name_length(name), &job) else {
+        return Err(Memory);
+    };
     let names_held = moments::names_held(vault, &job);
     let due = job_due(&job);
     let Some(vault) = state.vaults.get_mut(name) else {
@@ -66,11 +74,23 @@ pub(crate) fn put_job(
     };
     insert_job(vault, number, job)?;
     state.jobs = jobs;
+    state.length = length;
     state.due = due_with_job(state, names_held, due);
     Ok(true)
 }
 
-/// Puts a line into an inventory that is done.
+/// One line more, where the job is done.
+fn push_line(job: &mut Job, line: Line) -> Result<(), Memory>
+    ensures { OnOk result (job.new ≡ with_line line job.old) }
+{
+    match &mut job.stage {
+        Stage::Done(lines) => lines.push(line),
+        Stage::Waiting => Ok(()),
+        Stage::Failed => Ok(()),
+    }
+}
+
+/// Puts a line into an inventory that is done. A length that is no `u64` is want of memory.
 pub(crate) fn put_line(
     state: &mut AccountState,
     name: &VaultName,
@@ -91,14 +111,16 @@ pub(crate) fn put_line(
     if !fitting::takes_line(&line, done) {
         return Ok(false);
     }
+    let Some(length) = length_with_line(state.length, name_length(name), &line) else {
+        return Err(Memory);
+    };
     let Some(vault) = state.vaults.get_mut(name) else {
         unreachable!();
     };
     let Some(done) = vault.jobs.get_mut(job) else {
         unreachable!();
     };
-    if let Stage::Done(lines) = &mut done.stage {
-        lines.push(line)?;
-    }
+    push_line(done, line)?;
+    state.length = length;
     Ok(true)
 }

@@ -1,9 +1,10 @@
 // Items of a snapshot, put back into the state of an account.
-ghost use Rattle.std.specs.Prelude.{◌≡◌, ◌<◌, IfOk, IfSome, OnOk, false, is_some, unwrap_or, length};
+ghost use Rattle.std.specs.Prelude.{◌≡◌, ◌<◌, [], IfOk, IfSome, OnOk, false, is_some, unwrap_or, length};
 ghost use Rattle.std.specs.FinMap as map;
 ghost use Rattle.glacier_treehash.specs.Roots.{root_of_digests};
 ghost use Rattle.glacier_vault.specs.Lawful.{IsLawful, IsLawfulBody};
 ghost use Rattle.glacier_restore.specs.Restoring.{kept_archive, kept_lock, kept_part, names_some, numbers_of, put, restored, stage_of};
+ghost use Rattle.glacier_restore.specs.Snapshot.{lines_of};
 
 use crate::fitting::is_body;
 use crate::naming::names_some;
@@ -37,7 +38,8 @@ fn numbers_of(alloc: Global, blobs: &[Blob]) -> Result<List<u64>, Memory>
 }
 
 fn stage_of(alloc: Global, stage: StageName) -> Stage
-    ensures { result ≡ stage_of stage }
+    ensures is { result ≡ stage_of stage }
+    ensures bare { lines_of result ≡ [] }
 {
     match stage {
         StageName::Waiting => Stage::Waiting,
@@ -233,7 +235,7 @@ fn put_item(alloc: Global, state: &mut AccountState, m: Moment, kept: &Kept) -> 
             let Some(lock) = lock_of(alloc, m, *number, *locked, policy)? else {
                 return Ok(false);
             };
-            Ok(putting::put_lock(state, name, lock))
+            putting::put_lock(state, name, lock)
         }
     }
 }

@@ -11,6 +11,7 @@ returns-clause-state c =
     let used = grown.used in
     let uploads = grown.uploads in
     let jobs = grown.jobs in
+    let longer = grown.longer in
     let right = right_vault c.args.state.now c.requires.lawful c.args.name.now c.in-Some.vault.now (sym c.in-Some.ensures) in
     let due = archive_due c.args.state.now c.requires.lawful c.args.name.now c.in-Some.vault.now (sym c.in-Some.ensures) right c.args.number c.args.held c.args.archive (before_jobs c.args.state.now c.args.number c.in-Some.vault.now c.args.archive (sym c.if-not-takes_archive.ensures)) in
     grind (arith, common_steps)

@@ -11,5 +11,6 @@ returns-clause-state c =
     let used = grown.used in
     let uploads = grown.uploads in
     let jobs = grown.jobs in
+    let longer = grown.longer in
     let due = due_same c.args.state.now c.requires.lawful c.args.name.now c.in-Some.vault.now (sym c.in-Some.ensures) (in_upload c.args.upload c.args.index c.args.part) refl in
     grind (arith, common_steps)

@@ -11,5 +11,6 @@ returns-clause-state c =
     let used = grown.used in
     let uploads = grown.uploads in
     let jobs = grown.jobs in
+    let longer = grown.longer in
     let due = due_same c.args.state.now c.requires.lawful c.args.name.now c.in-Some.vault.now (sym c.in-Some.ensures) (with_upload c.args.number c.args.upload) refl in
     grind (arith, common_steps)

@@ -5,11 +5,12 @@ use Rattle.glacier_restore.proofs.MomentLemmas.{due_same}
 use Rattle.glacier_restore.proofs.PutLemmas.{line_grown}
 use Rattle.glacier_restore.proofs.putting_jobs.put_line.Goals as goal
 
-pub returns-in_ok-push-clause-state : goal.returns-in_ok-push-clause-state
-returns-in_ok-push-clause-state c =
-    let grown = line_grown c.args.state.now c.requires.lawful c.args.name.now c.in-Some.vault.now (sym c.in-Some.ensures) c.args.job c.in-Some-get.done.now (sym c.in-Some-get.ensures) c.args.line in
+pub returns-clause-state : goal.returns-clause-state
+returns-clause-state c =
+    let grown = line_grown c.args.state.now c.requires.lawful c.args.name.now c.in-Some.vault.now (sym c.in-Some.ensures) c.args.job c.in-Some-get.done.now (sym c.in-Some-get.ensures) c.args.line (sym c.if-not-takes_line.ensures) in
     let used = grown.used in
     let uploads = grown.uploads in
     let jobs = grown.jobs in
+    let longer = grown.longer in
     let due = due_same c.args.state.now c.requires.lawful c.args.name.now c.in-Some.vault.now (sym c.in-Some.ensures) (in_job c.args.job c.args.line) refl in
     grind (arith, common_steps)
