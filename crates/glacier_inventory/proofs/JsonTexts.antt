@@ -6,7 +6,8 @@ use Rattle.serde_json.specs.View.{items_of}
 use Rattle.serde_json.specs.Written.{items_text}
 use Rattle.serde_json.proofs.OnLiterals.{serde_json_on_literals}
 use Rattle.glacier_base.specs.Dates.{iso_of}
-use Rattle.glacier_inventory.specs.JsonInventories.{arn_of, line_data, inventory_json}
+use Rattle.glacier_policy.specs.Denials.{arn_of}
+use Rattle.glacier_inventory.specs.JsonInventories.{line_data, inventory_json}
 use Rattle.glacier_inventory.specs.declared.line.InventoryLine.{InventoryLine}
 
 grouped : (a b c d e f g : List ℕ) → a ++ b ++ c ++ d ++ e ++ f ++ g ≡ a ++ (b ++ (c ++ (d ++ (e ++ (f ++ g)))))

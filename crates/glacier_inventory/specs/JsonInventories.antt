@@ -1,16 +1,13 @@
 -- The inventory as JSON, printed without spaces.
-use Rattle.std.specs.Prelude.{ℕ, List, ◌++◌, codes, map}
+use Rattle.std.specs.Prelude.{ℕ, List, codes, map}
 use Rattle.hex.specs.Hex.{encode_lower}
 use Rattle.serde_json.specs.Data.{Data, number, unsigned, string, array, object, no_members, member}
 use Rattle.serde_json.specs.View.{items_of}
 use Rattle.serde_json.specs.Written.{compact_text}
 use Rattle.glacier_base.specs.Dates.{iso_of}
 use Rattle.glacier_base.specs.Ids.{id_text}
+use Rattle.glacier_policy.specs.Denials.{arn_of}
 use Rattle.glacier_inventory.specs.declared.line.InventoryLine.{InventoryLine}
-
--- the resource name of a vault
-abbrev pub arn_of : List ℕ → List ℕ → List ℕ → List ℕ
-arn_of region account vault = codes "arn:aws:glacier:" ++ region ++ codes ":" ++ account ++ codes ":vaults/" ++ vault
 
 -- what is said of an archive, whose id, date and tree hash are these texts
 abbrev pub dated_line_data : List ℕ → List ℕ → List ℕ → InventoryLine → Data

@@ -4,7 +4,8 @@ ghost use Rattle.json.specs.Print.{quoted};
 ghost use Rattle.serde_json.specs.View.{view, items_of};
 ghost use Rattle.serde_json.specs.Written.{comma_if, compact_text, has_float, items_text};
 ghost use Rattle.glacier_base.specs.Dates.{iso_of};
-ghost use Rattle.glacier_inventory.specs.JsonInventories.{arn_of, dated_line_data, line_data, inventory_json};
+ghost use Rattle.glacier_policy.specs.Denials.{arn_of};
+ghost use Rattle.glacier_inventory.specs.JsonInventories.{dated_line_data, line_data, inventory_json};
 
 use crate::InventoryLine;
 use crate::ascii::{account_text, ascii_text, description_text, name_text, region_text};

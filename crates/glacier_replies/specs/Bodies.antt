@@ -46,11 +46,6 @@ refusal_data code message =
     ∷ (codes "type", string (codes "Client"))
     ∷ [])
 
--- the resource name of a vault
-abbrev pub arn_of : List ℕ → List ℕ → List ℕ → List ℕ
-arn_of region account name =
-    codes "arn:aws:glacier:" ++ region ++ codes ":" ++ account ++ codes ":vaults/" ++ name
-
 -- the description of a vault, its date being a text, with the number of its archives and their bytes
 abbrev pub dated_vault_data : List ℕ → ℕ → ℕ → List ℕ → List ℕ → Data
 dated_vault_data created archives bytes arn name =

@@ -3,9 +3,9 @@ use Rattle.std.specs.Prelude.{ℕ, List, [], ◌∷◌, ◌++◌, Option, Some, 
 use Rattle.serde_json.specs.Written.{compact_text}
 use Rattle.glacier_http.specs.declared.reply.Kind.TheVariants.{Empty, Octets}
 use Rattle.glacier_http.specs.declared.reply.Reply.{Reply}
+use Rattle.glacier_policy.specs.Denials.{arn_of}
 use Rattle.glacier_vault.specs.declared.job.Job.{Job}
 use Rattle.glacier_vault.specs.declared.rules.Rules.{Rules}
-use Rattle.glacier_replies.specs.Bodies.{arn_of}
 use Rattle.glacier_replies.specs.Fields.{location_field, job_id_field, tree_fields, range_fields}
 use Rattle.glacier_replies.specs.Jobs.{job_data}
 use Rattle.glacier_replies.specs.Paths.{job_id, job_location}

@@ -3,10 +3,11 @@ use Rattle.std.specs.Prelude.{ℕ, List, [], ◌∷◌}
 use Rattle.serde_json.specs.Written.{compact_text}
 use Rattle.glacier_http.specs.declared.reply.Kind.TheVariants.{Empty, Json}
 use Rattle.glacier_http.specs.declared.reply.Reply.{Reply}
+use Rattle.glacier_policy.specs.Denials.{arn_of}
 use Rattle.glacier_vault.specs.declared.refusal.Refusal.{Refusal}
 use Rattle.glacier_vault.specs.declared.rules.Rules.{Rules}
 use Rattle.glacier_vault.specs.declared.state.VaultState.{VaultState}
-use Rattle.glacier_replies.specs.Bodies.{refusal_data, vault_data, arn_of}
+use Rattle.glacier_replies.specs.Bodies.{refusal_data, vault_data}
 use Rattle.glacier_replies.specs.Fields.{location_field, tree_field, archive_id_field}
 use Rattle.glacier_replies.specs.Paths.{location, archive_id, archive_location}
 use Rattle.glacier_replies.specs.Messages.{message_of}

@@ -2,7 +2,8 @@
 ghost use Rattle.std.specs.Prelude.{◌≡◌, IfOk, false, string_bytes};
 ghost use Rattle.serde_json.specs.View.{view};
 ghost use Rattle.serde_json.specs.Written.{compact_text, has_float};
-ghost use Rattle.glacier_replies.specs.Bodies.{refusal_data, dated_vault_data, vault_data, arn_of};
+ghost use Rattle.glacier_replies.specs.Bodies.{refusal_data, dated_vault_data, vault_data};
+ghost use Rattle.glacier_policy.specs.Denials.{arn_of};
 
 use crate::ascii::{account_text, ascii_text, name_text, region_text};
 use crate::objects::{Part, object};

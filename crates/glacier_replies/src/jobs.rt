@@ -2,7 +2,8 @@
 ghost use Rattle.std.specs.Prelude.{◌≡◌, IfOk, false};
 ghost use Rattle.serde_json.specs.View.{view};
 ghost use Rattle.serde_json.specs.Written.{compact_text, has_float};
-ghost use Rattle.glacier_replies.specs.Bodies.{arn_of, part_data};
+ghost use Rattle.glacier_replies.specs.Bodies.{part_data};
+ghost use Rattle.glacier_policy.specs.Denials.{arn_of};
 ghost use Rattle.glacier_replies.specs.Jobs.{
   action_name as name_of_action,
   archive_id as id_of_archive,
