@@ -1,11 +1,11 @@
 -- What is held on a disk, and what an event that is appended makes of it.
-use Rattle.std.proofs.Common.{◌≡◌, ◌≢◌, ◌⊎◌, inl, inr, ⊎_elim, ℕ, ◌+◌, ◌==◌, Bool, true, false, List, [], ◌∷◌, ◌++◌, length, if◌then◌else◌, sym, ◌∙◌, ap, subst}
+use Rattle.std.proofs.Common.{◌≡◌, ◌≢◌, inl, inr, ⊎_elim, ℕ, ◌+◌, ◌==◌, Bool, true, false, List, [], ◌∷◌, ◌++◌, length, if◌then◌else◌, sym, ◌∙◌, subst}
 use Rattle.glacier_bodies.specs.Blobs.{Holds}
 use Rattle.glacier_bodies.specs.Stands.{Layouts}
 use Rattle.glacier_disk.specs.declared.area.Area.{Area}
 use Rattle.glacier_disk.specs.declared.area.Area.TheVariants.{Lead, Left, Right, Blobs}
 use Rattle.glacier_disk.specs.Image.{Image, NoMore, Only}
-use Rattle.glacier_disk.specs.Moments.{LeavesOnly, started, weaker}
+use Rattle.glacier_disk.specs.Moments.{started, weaker}
 use Rattle.glacier_disk.specs.Told.{Told, Lawful}
 use Rattle.glacier_extents.specs.declared.run.Run.{Run}
 use Rattle.glacier_journal.specs.Appending.{Appends, IsDurable, NowLists, StillLists}
@@ -15,7 +15,7 @@ use Rattle.glacier_records.specs.Spells.{Spells}
 use Rattle.glacier_vault.specs.Lawful.{IsLawful}
 use Rattle.glacier_replay.specs.Accounts.{account_in}
 use Rattle.glacier_replay.specs.Changes.{AccountEvent, IsBodyOf, State, after_account_event}
-use Rattle.glacier_replay.specs.Made.{EventFits, Holdings, after_event, record_of}
+use Rattle.glacier_replay.specs.Made.{EventFits, after_event, record_of}
 use Rattle.glacier_replay.specs.Standing.{IsStateOf, Stands}
 use Rattle.glacier_replay.proofs.StateLemmas.{state_after}
 use Rattle.glacier_store.specs.Held.{Becomes, IsHeldBy, Remains}

@@ -1,5 +1,5 @@
 -- What keeping an event answers.
-use Rattle.std.proofs.Common.{◌≡◌, inl, ℕ, ◌+◌, List, [], ◌∷◌, ◌++◌, length, Ok, Err, sym, ◌∙◌, ap, subst}
+use Rattle.std.proofs.Common.{◌≡◌, inl, ℕ, List, [], ◌∷◌, ◌++◌, Ok, Err, sym, ◌∙◌, ap, subst}
 use Rattle.std.specs.Prelude.{Result, IfOk, IsErrOf}
 use Rattle.glacier_bodies.specs.BlobAreas.{AreaState, IsOpen}
 use Rattle.glacier_bodies.specs.Blobs.{Holds}

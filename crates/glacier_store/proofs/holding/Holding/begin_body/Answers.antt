@@ -2,8 +2,6 @@ use Rattle.std.proofs.Common.{sym, subst}
 use Rattle.std.proofs.lemmas.Result.{IfOk-weaker}
 use Rattle.glacier_bodies.specs.Stands.{Layouts}
 use Rattle.glacier_bodies.specs.declared.body.Body.{Body}
-use Rattle.glacier_extents.specs.FreeRuns.{Claims}
-use Rattle.glacier_replay.specs.Made.{IsRest}
 use Rattle.glacier_store.specs.Held.{IsRestBeside}
 use Rattle.glacier_store.proofs.StreamLemmas.{rest_beside}
 use Rattle.glacier_store.proofs.holding.Holding.begin_body.Goals as goal
