@@ -36,7 +36,7 @@ pub(crate) fn initiate_again(
         return Ok(None);
     }
     let text = Text::of(alloc, policy.bytes())?;
-    put_lock(state, m, name, text, read);
+    put_lock(state, m, name, text, read)?;
     Ok(Some(List::new(alloc)))
 }
 
