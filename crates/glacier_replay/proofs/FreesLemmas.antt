@@ -20,12 +20,13 @@ use Rattle.glacier_vault.specs.declared.event.Event.{Event}
 use Rattle.glacier_vault.specs.declared.event.Event.TheVariants as events
 use Rattle.glacier_vault.specs.declared.job.Job.{Job}
 use Rattle.glacier_vault.specs.declared.job.Work.TheVariants as works
+use Rattle.glacier_vault.specs.declared.lock.Lock.{Lock}
 use Rattle.glacier_vault.specs.declared.refusal.Refusal.{Refusal}
 use Rattle.glacier_vault.specs.declared.state.AccountState.{AccountState}
 use Rattle.glacier_vault.specs.declared.state.VaultState.{VaultState}
 use Rattle.glacier_vault.proofs.DeletionLemmas.{by_refusal, by_vault}
 use Rattle.glacier_vault.proofs.FreedLemmas.{archive-frees, delete-frees}
-use Rattle.glacier_vault.proofs.TotalsLemmas.{sum_by-none, total-changed_at, total-new_vault}
+use Rattle.glacier_vault.proofs.TotalsLemmas.{lock_total-zero, sum_by-none, total-changed_at, total-new_vault}
 use Rattle.glacier_upload.specs.Completion.{covered, has_gap, whole_archive, with_completed}
 use Rattle.glacier_upload.specs.Parts.{in_upload, replaced_blob, with_part}
 use Rattle.glacier_upload.specs.Single.{with_archive}
@@ -73,6 +74,9 @@ module _ (a : AccountState) (m : ℕ) (lawful : IsLawful a) where
     with_job_names : (job : Job) (vault : VaultState) (blob : ℕ) → vault_total (naming blob) (with_job a.counter job vault) ≡ vault_total (naming blob) vault
     with_job_names job vault blob = omega (arith, sum_by-none (map.values vault.jobs), sum_by-none (map.values (map.insert vault.jobs a.counter job)))
 
+    with_lock_names : (lock : Option Lock) (vault : VaultState) (blob : ℕ) → vault_total (naming blob) (with_lock lock vault) ≡ vault_total (naming blob) vault
+    with_lock_names lock vault blob = omega (arith, lock_total-zero (naming blob) (λ _. refl) lock, lock_total-zero (naming blob) (λ _. refl) vault.lock)
+
     begun : (job : Job) → Frees a false (after_put a m name job, [])
     begun job = named_still (after_put a m name job) (same_names (with_job a.counter job) (with_job_names job))
 
@@ -93,7 +97,7 @@ module _ (a : AccountState) (m : ℕ) (lawful : IsLawful a) where
           after_part = in_vault (drawn a) m name (in_upload upload (with_part index (recorded_part a.counter size leaves)))
 
           moved : (blob : ℕ) → times_named blob after_part.vaults + weight (naming blob).part (map.get found.parts index) ≡ times_named blob a.vaults + cond {A = ℕ} (nat_eq a.counter blob) 1 0
-          moved blob = total-with_part a a.last (omega arith) lawful name vault there upload found is_open index (recorded_part a.counter size leaves) (naming blob)
+          moved blob = total-with_part a a.last (omega arith) lawful name vault there upload found is_open index (recorded_part a.counter size leaves) (naming blob) refl
 
           within : (blob : ℕ) → weight (naming blob).part (map.get found.parts index) ≤ times_named blob a.vaults
           within blob = part_within a a.last (omega arith) lawful name vault there upload found is_open index (naming blob)
@@ -170,6 +174,6 @@ module _ (a : AccountState) (m : ℕ) (lawful : IsLawful a) where
         of_fit Plain p (nat_lt first end && nat_le end found.size && can_draw a) _ last (λ _. begun name (recorded_job m tier ready description (retrieval archive found first end)))))
     frees (events.BeginInventory name csv tier ready description) e = of_fit Plain p (map.contains_key a.vaults name && can_draw a) _ e (λ _. begun name (recorded_job m tier ready description (works.Inventory csv)))
     frees (events.InitiateLock name policy) e = of_there Plain p (policy_or_none policy) _ e (λ read is_read last.
-        of_fit Plain p (is_none (initiate_refusal a name)) _ last (λ _. named_still (in_vault (drawn a) m name (with_lock (Some (new_lock a.counter m policy read)))) (same_names name (with_lock (Some (new_lock a.counter m policy read))) (λ vault blob. refl))))
-    frees (events.CompleteLock name) e = of_there Plain p (progress_of a name) _ e (λ lock progress last. of_done Plain p _ last (named_still (in_vault a m name (with_lock (Some (locked lock)))) (same_names name (with_lock (Some (locked lock))) (λ vault blob. refl))))
-    frees (events.AbortLock name) e = of_there Plain p (progress_of a name) _ e (λ lock progress last. of_done Plain p _ last (named_still (in_vault a m name (with_lock None)) (same_names name (with_lock None) (λ vault blob. refl))))
+        of_fit Plain p (is_none (initiate_refusal a name)) _ last (λ _. named_still (in_vault (drawn a) m name (with_lock (Some (new_lock a.counter m policy read)))) (same_names name (with_lock (Some (new_lock a.counter m policy read))) (with_lock_names name (Some (new_lock a.counter m policy read))))))
+    frees (events.CompleteLock name) e = of_there Plain p (progress_of a name) _ e (λ lock progress last. of_done Plain p _ last (named_still (in_vault a m name (with_lock (Some (locked lock)))) (same_names name (with_lock (Some (locked lock))) (with_lock_names name (Some (locked lock))))))
+    frees (events.AbortLock name) e = of_there Plain p (progress_of a name) _ e (λ lock progress last. of_done Plain p _ last (named_still (in_vault a m name (with_lock None)) (same_names name (with_lock None) (with_lock_names name None))))

@@ -23,7 +23,7 @@ use Rattle.glacier_vault.specs.declared.archive.Upload.{Upload}
 use Rattle.glacier_vault.specs.declared.job.Job.{Job}
 use Rattle.glacier_vault.specs.declared.state.AccountState.{AccountState}
 use Rattle.glacier_vault.specs.declared.state.VaultState.{VaultState}
-use Rattle.glacier_vault.proofs.TotalsLemmas.{sum_by-none}
+use Rattle.glacier_vault.proofs.TotalsLemmas.{sum_by-none, lock_total-zero}
 use Rattle.glacier_upload.proofs.SameText.{count-alone}
 use Rattle.glacier_replay.specs.Standing.{InVault, InAccount}
 use Rattle.glacier_replay.proofs.Options.{of_some}
@@ -88,7 +88,7 @@ module _ (blob : ℕ) where
         at false false t u =
             let no_live : sum_by (naming blob).archive (map.values vault.archives) ≡ 0 = grind (arith, nat_tests) in
             let no_held : sum_by (naming blob).archive (map.values vault.held) ≡ 0 = grind (arith, nat_tests) in
-            let open_parts : 1 ≤ sum_by (upload_total (naming blob)) (map.values vault.uploads) = omega (arith, some, sum_by-none {X = Job} (map.values vault.jobs)) in
+            let open_parts : 1 ≤ sum_by (upload_total (naming blob)) (map.values vault.uploads) = omega (arith, some, sum_by-none {X = Job} (map.values vault.jobs), sum_by-none (map.values vault.finished), lock_total-zero (naming blob) (λ lock. refl) vault.lock) in
             some_value nat_cmp_total map.nat_cmp-IsAntisymmetric (upload_total (naming blob)) G vault.uploads open_parts (λ n upload there more. in_upload upload (of_some _ (map.get vault.uploads n) upload there (told.parts n)) more)
 
     pub named_gives : (a : AccountState) → InAccount Gives a → 1 ≤ times_named blob a.vaults → G

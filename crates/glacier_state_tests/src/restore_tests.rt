@@ -105,8 +105,9 @@ fn answered(
     Ok(items.len())
 }
 
-/// The last moment, the counter, the blocks, the open uploads, the jobs, and what is due.
-fn totals(state: &AccountState) -> [u64; 6] {
+/// The last moment, the counter, the blocks, the open uploads, the jobs, what is due, and how many
+/// bytes the items take with their frames but for their runs.
+fn totals(state: &AccountState) -> [u64; 7] {
     [
         state.last.seconds(),
         state.counter,
@@ -114,6 +115,7 @@ fn totals(state: &AccountState) -> [u64; 6] {
         state.uploads,
         state.jobs,
         state.due.unwrap_or(0),
+        state.length,
     ]
 }
 
@@ -163,7 +165,7 @@ fn is_made(state: &AccountState, name: &VaultName) -> bool {
     let Some(vault) = state.vaults.get(name) else {
         return false;
     };
-    totals(state) == [1000, 100, 4, 1, 2, 87_350]
+    totals(state) == [1000, 100, 4, 1, 2, 87_350, 893]
         && archives(vault) == Some([3, 3, 2, 1_048_577, 4])
         && uploads(vault) == Some([1_048_576, 5, 7, 1])
         && jobs(vault) == Some([960, 970, 1, 11, 87_350])
