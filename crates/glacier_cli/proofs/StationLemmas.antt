@@ -11,7 +11,7 @@ use Rattle.glacier_sigv4.specs.declared.ring.Entry.{Entry}
 use Rattle.glacier_server.specs.Acts.{Act, StopsAfter}
 use Rattle.glacier_server.specs.Headline.{Headline as Serves}
 use Rattle.glacier_server.specs.Serving.{acts_of, readings_of}
-use Rattle.glacier_store.specs.State.{State}
+use Rattle.glacier_vault.specs.Accounts.{Accounts}
 use Rattle.glacier_store.specs.Stands.{Stands}
 use Rattle.glacier_store.specs.declared.store.Store.{Store}
 use Rattle.glacier_cli.specs.declared.ending.Ending.{Ending}
@@ -69,7 +69,7 @@ before_listen {old = old} {mid = mid} {new = new} x call = record {
 }
 
 -- where only the disk as it read could be left, what could be left stands for its state
-still_stands : (reads : Image) (leaves : Image → Type 0) (state : State) (i : Image) → Only reads leaves → Stands reads state
+still_stands : (reads : Image) (leaves : Image → Type 0) (state : Accounts) (i : Image) → Only reads leaves → Stands reads state
     → leaves i → Stands i state
 still_stands reads leaves state i only stands there = subst (λ (image : Image). Stands image state) (sym (only i there)) stands
 
@@ -103,16 +103,16 @@ module _ (tells : Bool) {old : Told} (ring : List Entry) (words : ServeWords) wh
 
   -- a crash behind what came before is one of the run
   module _ {mid : Told} (x : Before words.is_new old mid) (store : Store) where
-    of_run : (state : State) → store.accounts ≡ state → (acts : List Act) (i : Image) (sent : List (List ℕ))
+    of_run : (state : Accounts) → store.accounts ≡ state → (acts : List Act) (i : Image) (sent : List (List ℕ))
         → StopsAfter (sent_on mid.connections) store.accounts acts i sent
         → StopsAfter (sent_on old.connections) state acts i sent
     of_run state is acts i sent stop =
-        subst (λ (s : State). StopsAfter (sent_on old.connections) s acts i sent) is
+        subst (λ (s : Accounts). StopsAfter (sent_on old.connections) s acts i sent) is
         (subst (λ (l : List Connection). StopsAfter (sent_on l) store.accounts acts i sent) x.connections stop)
 
     -- what was served from this store on
     module _ (starts : Starts words.is_new old.reads store)
-        (found : (state : State) → StartsFrom words.is_new old.reads state → store.accounts ≡ state) where
+        (found : (state : Accounts) → StartsFrom words.is_new old.reads state → store.accounts ≡ state) where
       pub served_on : {new : Told} {config : Config} → config ≡ config_of ring words → Serves config mid new store
           → Headline (station_use tells old new) ring words
       served_on {new = new} {config = config} is given =

@@ -10,7 +10,7 @@ use Rattle.glacier_journal.specs.Breaks.{areas, first_full}
 use Rattle.glacier_journal.specs.Listed.{Payloads, Listed}
 use Rattle.glacier_journal.specs.declared.journal.Journal.{Journal}
 use Rattle.glacier_store.specs.Stands.{Stands, Refuses, Kept}
-use Rattle.glacier_store.specs.State.{State}
+use Rattle.glacier_vault.specs.Accounts.{Accounts}
 use Rattle.glacier_store.specs.declared.fault.StoreFault.{StoreFault}
 use Rattle.glacier_store.specs.declared.fault.StoreFault.TheVariants as store
 use Rattle.glacier_store.specs.declared.store.Store.{Store}
@@ -18,7 +18,7 @@ use Rattle.glacier_cli.specs.declared.ending.Ending.{Ending}
 use Rattle.glacier_cli.specs.declared.ending.Ending.TheVariants.{DiskFault, NoMemory, NotAJournal, NotEmpty, JournalEnd}
 
 -- the state that a store has when it is made in empty areas, or that the disk stands for when it is opened
-abbrev pub StartsFrom : Bool → Image → State → Type 0
+abbrev pub StartsFrom : Bool → Image → Accounts → Type 0
 StartsFrom true reads state = (first_full reads areas ≡ None) × (state ≡ map.empty)
 StartsFrom false reads state = Stands reads state
 
@@ -34,7 +34,7 @@ Starts is_new reads store = StartsFrom is_new reads store.accounts × IsJournalO
 -- the folder is in order: its areas are empty where a store is to be made, and else it stands for a state
 abbrev pub IsInOrder : Bool → Image → Type 0
 IsInOrder true reads = first_full reads areas ≡ None
-IsInOrder false reads = (state : State) × Stands reads state
+IsInOrder false reads = (state : Accounts) × Stands reads state
 
 -- the folder is only looked at while the store begins: it is opened, or it isn't in order
 abbrev pub IsSpared : Bool → Image → Type 0
@@ -44,7 +44,7 @@ IsSpared is_new reads = (is_new ≡ false) ⊎ (IsInOrder is_new reads → ⊥)
 pub record Begins (is_new : Bool) (old new : Told) (result : Result Store StoreFault) : Type 0 where
   pub kept : IfOk result (λ store. Kept new store)
   pub starts : IfOk result (Starts is_new old.reads)
-  pub found : (state : State) → StartsFrom is_new old.reads state → IfOk result (λ store. store.accounts ≡ state)
+  pub found : (state : Accounts) → StartsFrom is_new old.reads state → IfOk result (λ store. store.accounts ≡ state)
   pub refuses : (area : Area) (at : ℕ) → IsErrOf result (store.NotAJournal area at) → Refuses old.reads area at
   pub full : (area : Area) (size : ℕ) → IsErrOf result (store.NotEmpty area size)
       → first_full old.reads areas ≡ Some (area, size)
@@ -91,7 +91,7 @@ pub record BeginsIn (is_new : Bool) (folder : List ℕ) (old new : Told) (result
   pub at_most : (new.folders ≡ old.folders) ⊎ (new.folders ≡ old.folders ++ folder ∷ [])
   pub kept : IfOk result (λ store. Kept new store)
   pub starts : IfOk result (Starts is_new old.reads)
-  pub found : (state : State) → StartsFrom is_new old.reads state → IfOk result (λ store. store.accounts ≡ state)
+  pub found : (state : Accounts) → StartsFrom is_new old.reads state → IfOk result (λ store. store.accounts ≡ state)
   pub why : IfErr result (HasNoStore is_new old.reads)
   -- opening changes no image, and where the folder isn't in order nothing does
   pub looks : IsSpared is_new old.reads → Looks old new

@@ -9,7 +9,7 @@ use Rattle.glacier_server.specs.Acts.{StopsAfter}
 use Rattle.glacier_server.specs.Serving.{Comes, ServedAll, ServedTill, BreaksLast, acts_of}
 use Rattle.glacier_server.specs.Session.{Session}
 use Rattle.glacier_store.specs.Stands.{Stands, Kept}
-use Rattle.glacier_store.specs.State.{State}
+use Rattle.glacier_vault.specs.Accounts.{Accounts}
 use Rattle.glacier_store.specs.declared.store.Store.{Store}
 use Rattle.glacier_cli.specs.Beginning.{IsInOrder, StartsFrom, Starts}
 use Rattle.glacier_cli.specs.Forms.{ServeWords}
@@ -79,13 +79,13 @@ pub record Headline (station : StationUse) (ring : List Entry) (words : ServeWor
       × IsServed (config_of ring words) came sessions store)
   -- What a crash at any moment left behind the first accept stands for the state after some first acts of it, and just
   -- the bytes among those had been sent.
-  pub stop : (state : State) → StartsFrom words.is_new station.before.reads state
+  pub stop : (state : Accounts) → StartsFrom words.is_new station.before.reads state
       → (i : Image) (sent : List (List ℕ)) → station.after.left_with station.before.moment i sent
       → (sent ≡ sent_on station.before.connections)
       ⊎ StopsAfter (sent_on station.before.connections) state (acts_of sessions) i sent
   -- so before it too, where a store was opened, and at the start only the disk as it read could be left
   pub any_moment : words.is_new ≡ false → Only station.before.reads station.before.leaves
-      → (state : State) → Stands station.before.reads state
+      → (state : Accounts) → Stands station.before.reads state
       → (i : Image) (sent : List (List ℕ)) → station.after.left_with station.before.moment i sent
       → StopsAfter (sent_on station.before.connections) state (acts_of sessions) i sent
   -- nothing changes in a folder that isn't in order

@@ -5,7 +5,8 @@ use Rattle.std.proofs.lemmas.List.Elements.{All-nil, All-cons}
 use Rattle.glacier_http.specs.Messages.{Message, good, bad}
 use Rattle.glacier_http.specs.View.{HeadText, text_of}
 use Rattle.glacier_machine.specs.ContentHash.{named_hashes, need_refusal}
-use Rattle.glacier_machine.specs.Outcomes.{Accounts, AccountEvent, events_of, request_outcome, one}
+use Rattle.glacier_machine.specs.Outcomes.{events_of, request_outcome, one}
+use Rattle.glacier_vault.specs.Accounts.{Accounts, AccountEvent}
 use Rattle.glacier_machine.specs.Requests.{routed_action}
 use Rattle.glacier_machine.specs.Routes.{route_of}
 use Rattle.glacier_machine.specs.SignedRequests.{signer_of, on_account, routed_request, needed_request, request_in}
@@ -42,7 +43,7 @@ events_hold : (P : List ℕ → Type 0) (account : List ℕ) (m : ℕ) (event : 
     → All (λ (e : AccountEvent). P e.account) (events_of account m event)
 events_hold P account m None holds = All-nil (λ (e : AccountEvent). P e.account)
 events_hold P account m (Some event) holds =
-    All-cons (λ (e : AccountEvent). P e.account) (record { account = account; moment = m; event = event }) [] holds
+    All-cons (λ (e : AccountEvent). P e.account) (record { account = account; moment = m; event = event; body = [] }) [] holds
     (All-nil (λ (e : AccountEvent). P e.account))
 
 pub events_are_signed : (config : Config) (accounts : Accounts) (message : Message) (reading : ℕ)

@@ -8,7 +8,7 @@ use Rattle.glacier_http.specs.View.{HeadText}
 use Rattle.glacier_machine.specs.ContentHash.{named_hashes, need_refusal, content_refusal}
 use Rattle.glacier_machine.specs.Requests.{first_of_two, fields_refusal, body_refusal, unless, action_of}
 use Rattle.glacier_machine.specs.Routes.{route_of}
-use Rattle.glacier_machine.specs.SignedRequests.{signer_of, on_account, routed_request, verified_request, needed_request, request_with, request_in, IsKept}
+use Rattle.glacier_machine.specs.SignedRequests.{signer_of, on_account, routed_request, verified_request, needed_request, request_with, request_in, IsBodyKept}
 use Rattle.glacier_machine.specs.declared.config.Config.{Config}
 use Rattle.glacier_machine.specs.declared.content_hash.TheConstants.{MOST_BODY}
 use Rattle.glacier_machine.specs.declared.routes.RouteStep.{RouteStep}
@@ -80,7 +80,7 @@ same_long config head n kept whole reading long = go (named_hashes head) refl
 
 -- so what is kept of a body is enough
 pub kept_is_enough : (config : Config) (head : HeadText) (n : ℕ) (kept whole : List ℕ) (reading : ℕ)
-    → length whole ≡ n → IsKept kept whole
+    → length whole ≡ n → IsBodyKept kept whole
     → request_with config head n kept reading ≡ request_in config head whole reading
 kept_is_enough config head n kept whole reading is kept_is =
     ap (λ k. request_with config head k kept reading) (sym is) ∙ go (nat_lt MOST_BODY (length whole)) refl

@@ -1,8 +1,6 @@
 -- One message, and a run over messages and readings of the clock.
-use Rattle.std.specs.Prelude.{ℕ, List, [], ◌∷◌, ◌++◌, Option, Some, None, Result, Ok, Err, unwrap_or, max}
-use Rattle.std.specs.Cmp.Lexicographic.{slice_cmp}
+use Rattle.std.specs.Prelude.{ℕ, List, [], ◌∷◌, ◌++◌, Option, Some, None, Result, Ok, Err, max}
 use Rattle.std.specs.FinMap as map
-use Rattle.std.specs.Ordering.{nat_cmp}
 use Rattle.glacier_http.specs.declared.reply.Reply.{Reply}
 use Rattle.glacier_http.specs.Messages.{Message, good, bad}
 use Rattle.glacier_http.specs.View.{text_of}
@@ -11,27 +9,13 @@ use Rattle.glacier_vault.specs.declared.event.Event.{Event}
 use Rattle.glacier_vault.specs.declared.refusal.Refusal.{Refusal}
 use Rattle.glacier_vault.specs.declared.rules.Rules.{Rules}
 use Rattle.glacier_vault.specs.declared.state.AccountState.{AccountState}
-use Rattle.glacier_vault.specs.Account.{empty_account}
+use Rattle.glacier_vault.specs.Accounts.{Accounts, account_in, AccountEvent}
 use Rattle.glacier_machine.specs.declared.action.Request.{Request}
 use Rattle.glacier_machine.specs.declared.config.Config.{Config}
 use Rattle.glacier_machine.specs.AccountSteps.{Step, step_of, after_event, pass_event, after_pass}
 use Rattle.glacier_replies.specs.Refusals.{head_refusal}
 use Rattle.glacier_replies.specs.Replies.{refused}
 use Rattle.glacier_machine.specs.SignedRequests.{request_in}
-
--- the state of the service: each account that was ever changed
-abbrev pub Accounts : Type 0
-Accounts = map.FinMap (slice_cmp nat_cmp) AccountState
-
--- the state of an account, which is empty where it was never changed
-abbrev pub account_in : Accounts → List ℕ → AccountState
-account_in accounts account = unwrap_or (map.get accounts account) empty_account
-
--- an event of an account at a moment
-pub record AccountEvent : Type 0 where
-  pub account : List ℕ
-  pub moment : ℕ
-  pub event : Event
 
 -- the accounts after an event
 abbrev pub after_account_event : Accounts → AccountEvent → Accounts
@@ -55,7 +39,7 @@ refusal_outcome refusal = record { reply = refused refusal; events = [] }
 -- the event of a change, if it has one
 abbrev pub events_of : List ℕ → ℕ → Option Event → List AccountEvent
 events_of account m None = []
-events_of account m (Some event) = record { account = account; moment = m; event = event } ∷ []
+events_of account m (Some event) = record { account = account; moment = m; event = event; body = [] } ∷ []
 
 -- the outcome of a step
 abbrev pub step_outcome : List ℕ → ℕ → Step → Outcome

@@ -63,5 +63,5 @@ abbrev pub request_in : Config → HeadText → List ℕ → ℕ → Result Requ
 request_in config head body reading = request_with config head (length body) body reading
 
 -- what is kept of a body: all of it, unless it is longer than a body may be
-abbrev pub IsKept : List ℕ → List ℕ → Type 0
-IsKept kept body = length body ≤ MOST_BODY → kept ≡ body
+abbrev pub IsBodyKept : List ℕ → List ℕ → Type 0
+IsBodyKept kept body = length body ≤ MOST_BODY → kept ≡ body

@@ -2,7 +2,7 @@
 ghost use Rattle.std.specs.Prelude.{◌≡◌, ℕ, List, length, IfOk, IfErr};
 ghost use Rattle.glacier_http.specs.View.{HasNames};
 ghost use Rattle.glacier_replies.specs.Messages.{HasAsciiText};
-ghost use Rattle.glacier_machine.specs.SignedRequests.{fault_refusal as refusal_of_fault, signer_of, on_account, routed_request as request_of_route, verified_request as request_of_verdict, request_with as request_of_head, request_in, IsKept};
+ghost use Rattle.glacier_machine.specs.SignedRequests.{fault_refusal as refusal_of_fault, signer_of, on_account, routed_request as request_of_route, verified_request as request_of_verdict, request_with as request_of_head, request_in, IsBodyKept};
 
 use crate::action::Request;
 use crate::config::Config;
@@ -106,7 +106,7 @@ pub fn read_request(
     body: &[u8],
     reading: Moment,
 ) -> Result<Result<Request, Refusal>, Memory>
-    ensures request { (whole : List ℕ) → length whole ≡ content_length → IsKept body.now whole
+    ensures request { (whole : List ℕ) → length whole ≡ content_length → IsBodyKept body.now whole
         → IfOk result (λ request. request ≡ request_in config.now head.now whole reading) }
     ensures ascii { IfOk result (λ request. IfErr request HasAsciiText) }
 {

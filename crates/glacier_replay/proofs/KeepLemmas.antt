@@ -16,7 +16,7 @@ use Rattle.glacier_vault.specs.Totals.{need, times_named}
 use Rattle.glacier_vault.specs.declared.event.Event.{Event}
 use Rattle.glacier_vault.specs.declared.event.Event.TheVariants as events
 use Rattle.glacier_vault.specs.declared.state.AccountState.{AccountState}
-use Rattle.glacier_replay.specs.Accounts.{Accounts, account_in}
+use Rattle.glacier_vault.specs.Accounts.{Accounts, account_in}
 use Rattle.glacier_replay.specs.Changes.{IsBodyOf, body_in, new_blob, with_new, change_in, blobs_after}
 use Rattle.glacier_replay.specs.Replayed.{after_event, can_draw, is_body}
 use Rattle.glacier_replay.specs.Standing.{IsTold, InAccount, Tells}

@@ -25,7 +25,7 @@ use Rattle.glacier_vault.specs.declared.archive.Part.{Part}
 use Rattle.glacier_vault.specs.declared.archive.Upload.{Upload}
 use Rattle.glacier_vault.specs.declared.state.AccountState.{AccountState}
 use Rattle.glacier_vault.specs.declared.state.VaultState.{VaultState}
-use Rattle.glacier_replay.specs.Accounts.{Accounts, account_in}
+use Rattle.glacier_vault.specs.Accounts.{Accounts, account_in}
 use Rattle.glacier_replay.specs.Changes.{State}
 use Rattle.glacier_replay.specs.Made.{Holdings, nothing}
 use Rattle.glacier_replay.specs.Standing.{AreThere, IsStateOf, IsTold, InAccount, InVault, Matches, Stands, Tells}

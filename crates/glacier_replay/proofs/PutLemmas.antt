@@ -9,7 +9,7 @@ use Rattle.glacier_base.proofs.Finite.{bytes_cmp-IsAntisymmetric}
 use Rattle.glacier_base.proofs.LookUps.{if_some-empty, if_some-insert, if_some-remove}
 use Rattle.glacier_vault.specs.Lawful.{IsLawful}
 use Rattle.glacier_vault.specs.declared.state.AccountState.{AccountState}
-use Rattle.glacier_replay.specs.Accounts.{Accounts, AllLawful}
+use Rattle.glacier_vault.specs.Accounts.{Accounts, AllLawful}
 
 pub none_lawful : AllLawful map.empty
 none_lawful = if_some-empty (slice_cmp nat_cmp) IsLawful

@@ -12,7 +12,7 @@ use Rattle.glacier_extents.specs.Runs.{has_block, block_count, AreDistinct}
 use Rattle.glacier_vault.specs.declared.event.Event.{Event}
 use Rattle.glacier_vault.specs.declared.state.AccountState.{AccountState}
 use Rattle.glacier_replay.specs.declared.replaying.Replayed.{Replayed}
-use Rattle.glacier_replay.specs.Accounts.{Accounts, account_in}
+use Rattle.glacier_vault.specs.Accounts.{Accounts, account_in}
 use Rattle.glacier_replay.specs.Changes.{accounts_after, blobs_after, body_in, change_in, leaf_count, new_blob, with_new, without_blobs}
 use Rattle.glacier_replay.specs.Made.{BlocksFit, Holdings, IsRest, after_event}
 use Rattle.glacier_replay.specs.Replayed.{Replay, answer_of, left_by, replayed}

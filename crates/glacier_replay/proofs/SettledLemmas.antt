@@ -17,7 +17,7 @@ use Rattle.glacier_records.specs.declared.records.Item.TheVariants as item
 use Rattle.glacier_vault.specs.Account.{empty_account}
 use Rattle.glacier_vault.specs.declared.event.Event.{Event}
 use Rattle.glacier_vault.specs.declared.state.AccountState.{AccountState}
-use Rattle.glacier_replay.specs.Accounts.{Accounts, account_in}
+use Rattle.glacier_vault.specs.Accounts.{Accounts, account_in}
 use Rattle.glacier_replay.specs.Changes.{body_in, new_blob, change_in, accounts_after, blobs_after}
 use Rattle.glacier_replay.specs.Made.{Holdings, BlocksFit, ItemFits, IsSettled, Leads, after_item, nothing}
 use Rattle.glacier_replay.proofs.BlobMaps.{account_is, is_account, is_new, new_is, was_there}

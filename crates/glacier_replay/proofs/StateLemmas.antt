@@ -20,8 +20,8 @@ use Rattle.glacier_vault.specs.declared.state.AccountState.{AccountState}
 use Rattle.glacier_vault.specs.declared.state.VaultState.{VaultState}
 use Rattle.glacier_upload.specs.Uploads.{open_upload}
 use Rattle.glacier_upload.proofs.PartLemmas.{right_upload}
-use Rattle.glacier_replay.specs.Accounts.{account_in}
-use Rattle.glacier_replay.specs.Changes.{AccountEvent, IsBodyOf, State, accounts_after, after_account_event, blobs_after, body_in, change_in, leaf_count, new_blob}
+use Rattle.glacier_vault.specs.Accounts.{account_in, AccountEvent}
+use Rattle.glacier_replay.specs.Changes.{IsBodyOf, State, accounts_after, after_account_event, blobs_after, body_in, change_in, leaf_count, new_blob}
 use Rattle.glacier_replay.specs.Made.{Holdings, EventFits, after_event, nothing, record_of}
 use Rattle.glacier_replay.specs.Replayed.{Replay, replays}
 use Rattle.glacier_replay.specs.Replayed as replay

@@ -6,7 +6,7 @@ use Rattle.glacier_bodies.specs.Stands.{ByBlob, Bodies}
 use Rattle.glacier_treehash.specs.Leaves.{leaves_of}
 use Rattle.glacier_vault.specs.declared.event.Event.{Event}
 use Rattle.glacier_vault.specs.declared.event.Event.TheVariants as events
-use Rattle.glacier_replay.specs.Accounts.{Accounts, account_in}
+use Rattle.glacier_vault.specs.Accounts.{Accounts, account_in}
 use Rattle.glacier_replay.specs.Replayed.{Replay, replayed}
 
 -- the size and the leaves of an event's body, if it has one
@@ -56,13 +56,6 @@ blobs_after blobs account new (Some done) = without_blobs (with_new blobs accoun
 pub record State : Type 0 where
   pub accounts : Accounts
   pub bodies : Bodies
-
--- an event of an account at a moment, with the bytes of its body
-pub record AccountEvent : Type 0 where
-  pub account : List ℕ
-  pub moment : ℕ
-  pub event : Event
-  pub body : List ℕ
 
 -- the state after an event
 abbrev pub after_account_event : State → AccountEvent → State

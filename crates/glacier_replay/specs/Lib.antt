@@ -1,4 +1,3 @@
-pub mod Accounts
 pub mod AccountsCode
 pub mod Changes
 pub mod Made

@@ -11,8 +11,8 @@ use Rattle.glacier_records.specs.declared.records.Item.TheVariants as item
 use Rattle.glacier_records.specs.declared.records.Record.{Record}
 use Rattle.glacier_records.specs.Spells.{Spells}
 use Rattle.glacier_vault.specs.declared.event.Event.{Event}
-use Rattle.glacier_replay.specs.Accounts.{Accounts, account_in}
-use Rattle.glacier_replay.specs.Changes.{AccountEvent, leaf_count, new_blob, change_in, accounts_after, blobs_after}
+use Rattle.glacier_vault.specs.Accounts.{Accounts, account_in, AccountEvent}
+use Rattle.glacier_replay.specs.Changes.{leaf_count, new_blob, change_in, accounts_after, blobs_after}
 
 -- all accounts, and the runs of each blob
 pub record Holdings : Type 0 where

@@ -14,7 +14,7 @@ use Rattle.glacier_treehash.specs.Tree.{mib}
 use Rattle.glacier_vault.specs.Totals.{need, times_named}
 use Rattle.glacier_vault.specs.declared.state.AccountState.{AccountState}
 use Rattle.glacier_vault.specs.declared.state.VaultState.{VaultState}
-use Rattle.glacier_replay.specs.Accounts.{Accounts, account_in}
+use Rattle.glacier_vault.specs.Accounts.{Accounts, account_in}
 use Rattle.glacier_replay.specs.Changes.{State}
 use Rattle.glacier_replay.specs.Made.{Makes}
 

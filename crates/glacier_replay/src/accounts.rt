@@ -2,7 +2,7 @@
 ghost use Rattle.std.specs.Prelude.{◌≡◌, OnOk, if◌then◌else◌};
 ghost use Rattle.std.specs.FinMap as map;
 ghost use Rattle.std.specs.Option.{option_copied};
-ghost use Rattle.glacier_replay.specs.Accounts.{account_in};
+ghost use Rattle.glacier_vault.specs.Accounts.{account_in};
 ghost use Rattle.glacier_vault.specs.Lawful.{IsLawful};
 
 use glacier_base::{Account, AccountMap, Memory, Moment};
@@ -17,7 +17,7 @@ pub struct Accounts {
 }
 
 impl Model for Accounts {
-    ghost use Rattle.glacier_replay.specs.Accounts.{Accounts as AllAccounts, AllLawful};
+    ghost use Rattle.glacier_vault.specs.Accounts.{Accounts as AllAccounts, AllLawful};
     ghost use Rattle.glacier_replay.specs.AccountsCode.{accounts_code};
 
     ghost Value = { AllAccounts };

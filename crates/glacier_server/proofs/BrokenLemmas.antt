@@ -1,6 +1,6 @@
 -- A message for which the server broke off, behind those that were answered.
 use Rattle.std.proofs.Common.{◌≡◌, ℕ, ◌+◌, ◌^◌, ◌<◌, List, [], ◌∷◌, ◌++◌, None, refl, sym, ap, ◌∙◌, arith, append-nil}
-use Rattle.glacier_machine.specs.Outcomes.{AccountEvent}
+use Rattle.glacier_vault.specs.Accounts.{AccountEvent}
 use Rattle.glacier_machine.specs.declared.config.Config.{Config}
 use Rattle.glacier_server.specs.Acts.{Act, bytes_of, events_in, after_acts}
 use Rattle.glacier_server.specs.declared.end.ServeFault.{ServeFault}

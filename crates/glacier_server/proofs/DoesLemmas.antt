@@ -5,7 +5,8 @@ use Rattle.glacier_disk.specs.Calls.{TimePassesWith, Rests}
 use Rattle.glacier_disk.specs.Image.{Image}
 use Rattle.glacier_disk.specs.Network.{AllSent, PartSent, sent_on, on_last}
 use Rattle.glacier_disk.specs.Told.{Told, Lawful, ByDisk}
-use Rattle.glacier_machine.specs.Outcomes.{AccountEvent, after_all}
+use Rattle.glacier_machine.specs.Outcomes.{after_all}
+use Rattle.glacier_vault.specs.Accounts.{Accounts, AccountEvent}
 use Rattle.glacier_server.specs.Acts.{Act, accept, send, sends, keeps, sent_by, after_acts, StopsAfter, StopsAmid}
 use Rattle.glacier_server.specs.Does.{Does, StillGrew, StillKept, Failing, nothing, receiving, sending, breaking}
 use Rattle.glacier_server.proofs.ActLemmas.{sent_by-append, sent_by-sends, sent_by-keeps, after_acts-append, after-sends, after-keeps, events_in-sends}
@@ -13,7 +14,6 @@ use Rattle.glacier_server.proofs.StopLemmas.{stops_first, stops_last, sooner, la
 use Rattle.glacier_server.proofs.KeptLemmas.{still_kept, stands}
 use Rattle.glacier_store.specs.Changes.{Changes, Stays}
 use Rattle.glacier_store.specs.Stands.{Stands, Kept}
-use Rattle.glacier_store.specs.State.{State}
 use Rattle.glacier_store.specs.declared.store.Store.{Store}
 
 -- no call at all
@@ -35,7 +35,7 @@ pub does_then : {a b c : Told} {s m e : Store} {first more : List Act} {failing 
     → Does a b s m first nothing → Does b c m e more failing → Does a c s e (first ++ more) failing
 does_then {a = a} {b = b} {c = c} {s = s} {m = m} {e = e} {first = first} {more = more} {failing = failing} x y = record {
   all_sent = y.all_sent ∙ ap (sent_by more) x.all_sent ∙ sym (sent_by-append first more (sent_on a.connections));
-  after_is = y.after_is ∙ ap (λ (k : State). after_acts k more) x.after_is
+  after_is = y.after_is ∙ ap (λ (k : Accounts). after_acts k more) x.after_is
       ∙ sym (after_acts-append s.accounts first more);
   grew = grew_then failing s m e first more x.grew y.grew;
   kept = λ kept. y.kept (x.kept kept);
@@ -55,7 +55,7 @@ does_then {a = a} {b = b} {c = c} {s = s} {m = m} {e = e} {first = first} {more 
     from_mid : (i : Image) (sent : List (List ℕ)) → StopsAfter (sent_on b.connections) m.accounts more i sent
         → StopsAfter (sent_by first (sent_on a.connections)) (after_acts s.accounts first) more i sent
     from_mid i sent stop =
-        subst (λ (k : State). StopsAfter (sent_by first (sent_on a.connections)) k more i sent) x.after_is
+        subst (λ (k : Accounts). StopsAfter (sent_by first (sent_on a.connections)) k more i sent) x.after_is
         (subst (λ (l : List (List ℕ)). StopsAfter l m.accounts more i sent) x.all_sent stop)
 
 -- the same acts, said otherwise
@@ -111,7 +111,7 @@ does_send {old = old} {new = new} store failing bytes rests time more = record {
           k = (now.1).0;
           bytes = (now.1).1 ∙ sym (sent_by-sends (take (now.1).0 bytes) (sent_on old.connections))
               ∙ ap (λ (l : List Act). sent_by l (sent_on old.connections)) (sym (take-map send (now.1).0 bytes));
-          stands = subst (λ (s : State). Stands i s) (sym (after-sends store.accounts (take (now.1).0 bytes))
+          stands = subst (λ (s : Accounts). Stands i s) (sym (after-sends store.accounts (take (now.1).0 bytes))
               ∙ ap (after_acts store.accounts) (sym (take-map send (now.1).0 bytes)))
               (stands old store kept i (rests.crash i now.0));
         }))

@@ -3,7 +3,7 @@ use Rattle.std.proofs.Common.{inl, List, [], Ok, Err, refl, arith}
 use Rattle.glacier_disk.specs.Calls.{Rests}
 use Rattle.glacier_disk.specs.Moments.{started}
 use Rattle.glacier_disk.specs.Told.{Told, Lawful}
-use Rattle.glacier_machine.specs.Outcomes.{AccountEvent}
+use Rattle.glacier_vault.specs.Accounts.{AccountEvent}
 use Rattle.glacier_server.specs.declared.end.ServeFault.TheVariants.{Memory}
 use Rattle.glacier_server.specs.Events.{KeepsEvents}
 use Rattle.glacier_store.specs.Stands.{AllStand, Kept}

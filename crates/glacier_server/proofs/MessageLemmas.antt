@@ -12,7 +12,7 @@ use Rattle.glacier_http.specs.Step.{IsStep}
 use Rattle.glacier_http.specs.Messages.{Message, good as Good, cut, end_of_rest}
 use Rattle.glacier_machine.specs.declared.config.Config.{Config}
 use Rattle.glacier_machine.specs.Outcomes.{one}
-use Rattle.glacier_machine.specs.SignedRequests.{IsKept}
+use Rattle.glacier_machine.specs.SignedRequests.{IsBodyKept}
 use Rattle.glacier_server.specs.Acts.{Act, keeps as acts_of}
 use Rattle.glacier_server.specs.declared.end.End.{End}
 use Rattle.glacier_server.specs.declared.end.End.TheVariants.{Cut, ReadFault, SendFault}
@@ -108,7 +108,7 @@ module _ (config : Config) (from : Standing) (headers : List HeaderSpan) (spans 
       message = Good (h config from headers spans used left r is extends)
           (body config from headers spans used left r is extends takes.got)
 
-      at_message : (kept : List ℕ) → IsKept kept (body config from headers spans used left r is extends takes.got)
+      at_message : (kept : List ℕ) → IsBodyKept kept (body config from headers spans used left r is extends takes.got)
           → (holds : Message → Type 0) → AtFront from.unread spans kept holds → holds message
       unfolding message
       at_message kept keeps holds each =
@@ -122,7 +122,7 @@ module _ (config : Config) (from : Standing) (headers : List HeaderSpan) (spans 
 
       -- no call of the store was made for want of memory, or one broke the server off
       module _ (end : Option End) (kept : List ℕ)
-          (keeps : IsKept kept (body config from headers spans used left r is extends takes.got)) where
+          (keeps : IsBodyKept kept (body config from headers spans used left r is extends takes.got)) where
         text : List Act
         text = said config from headers spans used left r is extends takes.got end
 

@@ -21,11 +21,11 @@ use Rattle.glacier_server.specs.Transfer.{Transfer, SentAll, SentPart, current}
 use Rattle.glacier_server.specs.Does.{nothing}
 use Rattle.glacier_server.proofs.EndLemmas.{answering, bad_answered, bad_part}
 use Rattle.glacier_server.proofs.TransferLemmas.{acts_then, says, fails_as, breaks_off}
-use Rattle.glacier_store.specs.State.{State}
+use Rattle.glacier_vault.specs.Accounts.{Accounts}
 use Rattle.glacier_store.specs.declared.store.Store.{Store}
 
 -- the text of a message's reply, by what the machine answers
-pub text_is : (config : Config) (state : State) (m : Message) (r : ℕ) (close : Bool) (answer : Reply)
+pub text_is : (config : Config) (state : Accounts) (m : Message) (r : ℕ) (close : Bool) (answer : Reply)
     → answer ≡ (one config state m r).reply → text_of_reply answer r close ≡ reply config state m r close
 unfolding reply
 text_is config state m r close answer is = ap (λ (a : Reply). text_of_reply a r close) is

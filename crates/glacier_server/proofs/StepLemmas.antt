@@ -6,7 +6,8 @@ use Rattle.glacier_disk.specs.Calls.{ReceiveCall, Receives, SendCall, NowCall, S
 use Rattle.glacier_disk.specs.Network.{Connection, Wait, OnLast, Takes as TakesStep, TakesNone, sent_on, on_last, wait_of}
 use Rattle.glacier_disk.specs.Told.{Told, Lawful, ByDisk}
 use Rattle.glacier_disk.proofs.Connections.{sent_same, sent_more}
-use Rattle.glacier_machine.specs.Outcomes.{AccountEvent, after_all}
+use Rattle.glacier_machine.specs.Outcomes.{after_all}
+use Rattle.glacier_vault.specs.Accounts.{AccountEvent}
 use Rattle.glacier_server.specs.Acts.{sends as acts, keeps as acts_of, bytes_of}
 use Rattle.glacier_server.specs.Session.{Session, taking, reading, acting}
 use Rattle.glacier_server.specs.Transfer.{Transfer, TakenAt, Takes, SentAll, SentPart, receiving_if, received, Fails, current, others}

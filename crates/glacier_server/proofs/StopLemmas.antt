@@ -9,15 +9,15 @@ use Rattle.glacier_server.specs.Does.{Grew, StillGrew, Failing, nothing, receivi
 use Rattle.glacier_server.proofs.ActLemmas.{sent_by-append, after_acts-append, room-append}
 use Rattle.glacier_store.specs.Events.{room_of}
 use Rattle.glacier_store.specs.Stands.{Stands}
-use Rattle.glacier_store.specs.State.{State}
+use Rattle.glacier_vault.specs.Accounts.{Accounts}
 use Rattle.glacier_store.specs.declared.store.Store.{Store}
 
 -- a crash before the first act, and behind the last one
-pub stops_first : {before : List (List ℕ)} {state : State} {acts : List Act} {i : Image} {sent : List (List ℕ)}
+pub stops_first : {before : List (List ℕ)} {state : Accounts} {acts : List Act} {i : Image} {sent : List (List ℕ)}
     → sent ≡ before → Stands i state → StopsAfter before state acts i sent
 stops_first is stands = record { k = 0; bytes = is; stands = stands }
 
-pub stops_last : {before : List (List ℕ)} (state after : State) (acts : List Act) {i : Image} {sent : List (List ℕ)}
+pub stops_last : {before : List (List ℕ)} (state after : Accounts) (acts : List Act) {i : Image} {sent : List (List ℕ)}
     → after ≡ after_acts state acts → sent ≡ sent_by acts before → Stands i after
     → StopsAfter before state acts i sent
 stops_last {before = before} state after acts {i = i} at is stands =
@@ -25,11 +25,11 @@ stops_last {before = before} state after acts {i = i} at is stands =
     record {
       k = length acts;
       bytes = is ∙ ap (λ (l : List Act). sent_by l before) (sym all);
-      stands = subst (λ (s : State). Stands i s) (at ∙ ap (after_acts state) (sym all)) stands;
+      stands = subst (λ (s : Accounts). Stands i s) (at ∙ ap (after_acts state) (sym all)) stands;
     }
 
 -- a crash amid the first acts is one amid all, and so is one amid the others
-pub sooner : {before : List (List ℕ)} {state : State} (first more : List Act) {i : Image} {sent : List (List ℕ)}
+pub sooner : {before : List (List ℕ)} {state : Accounts} (first more : List Act) {i : Image} {sent : List (List ℕ)}
     → StopsAfter before state first i sent → StopsAfter before state (first ++ more) i sent
 sooner {before = before} {state = state} first more {i = i} x =
     let n : ℕ = min x.k (length first) in
@@ -41,7 +41,7 @@ sooner {before = before} {state = state} first more {i = i} x =
       stands = subst (λ (l : List Act). Stands i (after_acts state l)) same x.stands;
     }
 
-pub later : {before : List (List ℕ)} {state : State} (first more : List Act) {i : Image} {sent : List (List ℕ)}
+pub later : {before : List (List ℕ)} {state : Accounts} (first more : List Act) {i : Image} {sent : List (List ℕ)}
     → StopsAfter (sent_by first before) (after_acts state first) more i sent
     → StopsAfter before state (first ++ more) i sent
 later {before = before} {state = state} first more {i = i} x =
@@ -50,7 +50,7 @@ later {before = before} {state = state} first more {i = i} x =
       k = length first + x.k;
       bytes = x.bytes ∙ sym (sent_by-append first (take x.k more) before)
           ∙ ap (λ (l : List Act). sent_by l before) (sym split);
-      stands = subst (λ (s : State). Stands i s) (sym (after_acts-append state first (take x.k more))
+      stands = subst (λ (s : Accounts). Stands i s) (sym (after_acts-append state first (take x.k more))
           ∙ ap (after_acts state) (sym split)) x.stands;
     }
 

@@ -4,7 +4,8 @@ use Rattle.glacier_disk.specs.Moments.{joined, weaker}
 use Rattle.glacier_disk.specs.Told.{Told}
 use Rattle.glacier_machine.specs.declared.action.Request.{Request}
 use Rattle.glacier_machine.specs.declared.config.Config.{Config}
-use Rattle.glacier_machine.specs.Outcomes.{AccountEvent, account_in, after_all, moment_of, rules_of}
+use Rattle.glacier_machine.specs.Outcomes.{after_all, moment_of, rules_of}
+use Rattle.glacier_vault.specs.Accounts.{Accounts, account_in, AccountEvent}
 use Rattle.glacier_vault.specs.declared.rules.Rules.{Rules}
 use Rattle.glacier_server.specs.declared.end.ServeFault.{ServeFault}
 use Rattle.glacier_server.specs.declared.end.ServeFault.TheVariants.{Disk, Memory, JournalEnd}
@@ -14,18 +15,17 @@ use Rattle.glacier_store.specs.Calls.{Commits, Grows}
 use Rattle.glacier_store.specs.Changes.{Changes, Stays}
 use Rattle.glacier_store.specs.Events.{action_events, room_of}
 use Rattle.glacier_store.specs.Stands.{Kept, Stands}
-use Rattle.glacier_store.specs.State.{State}
 use Rattle.glacier_store.specs.declared.fault.StoreFault.{StoreFault}
 use Rattle.glacier_store.specs.declared.fault.StoreFault.TheVariants as store_fault
 use Rattle.glacier_store.specs.declared.store.Store.{Store}
 
 -- the events of a request are those of its action, at the moment that it has
-pub events_are : (config : Config) (rules : Rules) (request : Request) (reading m : ℕ) (accounts one : State)
+pub events_are : (config : Config) (rules : Rules) (request : Request) (reading m : ℕ) (accounts one : Accounts)
     → rules ≡ rules_of config request.account → m ≡ moment_of (account_in accounts request.account) reading
     → one ≡ accounts → action_events rules m request.action one
     ≡ (told_of (rules_of config request.account) accounts request reading).events
 events_are config rules request reading m accounts one is at same =
-    ap (λ (s : State). action_events rules m request.action s) same
+    ap (λ (s : Accounts). action_events rules m request.action s) same
     ∙ ap (λ (n : ℕ). action_events rules n request.action accounts) at
     ∙ ap (λ (r : Rules). action_events r (moment_of (account_in accounts request.account) reading) request.action accounts) is
 
@@ -65,7 +65,7 @@ module _ {T : Type 0} {old new : Told} (store : Store) (events : List AccountEve
   }
 
 -- where one state is before and after, it stays
-stays : {old new : Told} (state : State) → Changes old new state state → Stays old new state
+stays : {old new : Told} (state : Accounts) → Changes old new state state → Stays old new state
 stays {old = old} {new = new} state changes =
     weaker old new (λ i. Stands i state ⊎ Stands i state) (λ i. Stands i state) changes (λ i p. ⊎_elim (λ s. s) (λ s. s) p)
 
@@ -94,14 +94,14 @@ module _ {U : Type 0} {old mid : Told} (store : Store) where
         ⊎ Stands i (after_all store.accounts events))
         (weaker old mid (λ i. Stands i store.accounts) (λ i. Stands i store.accounts
         ⊎ Stands i (after_all store.accounts events)) (stays store.accounts (passed.any_moment kept)) (λ i s. inl s))
-        (subst (λ (s : State). Changes mid new s (after_all s events)) same (next (passed.kept kept))) (λ i p. p)
+        (subst (λ (s : Accounts). Changes mid new s (after_all s events)) same (next (passed.kept kept))) (λ i p. p)
 
     pub action_done : {T V : Type 0} (two : Store) (answer : V) (reply : T)
         → Commits {T = V} mid new one (after_all one.accounts events) (Ok (two, answer))
         → two.accounts ≡ after_all one.accounts events → Grows {T = V} one.journal (room_of events) (Ok (two, answer))
         → KeepsEvents {T = T} old new store events (Ok (reply, two))
     action_done two answer reply commits is grows = record {
-      accounts = is ∙ ap (λ (s : State). after_all s events) same;
+      accounts = is ∙ ap (λ (s : Accounts). after_all s events) same;
       grew = omega (arith, grew, grows.longer);
       any_moment = changes commits.any_moment;
       kept = λ kept. commits.kept (passed.kept kept);
@@ -117,7 +117,7 @@ module _ {U : Type 0} {old mid : Told} (store : Store) where
         broken store events fault other is (changes commits.any_moment)
         (λ at kept. joined {old = old} {mid = mid} {new = new} (λ i. Stands i store.accounts) (λ i. Stands i store.accounts)
         (stays store.accounts (passed.any_moment kept))
-        (subst (λ (s : State). Stays mid new s) same (commits.memory (passed.kept kept) (ap Err at))) (λ i p. p))
+        (subst (λ (s : Accounts). Stays mid new s) same (commits.memory (passed.kept kept) (ap Err at))) (λ i p. p))
         (λ length at. let end = grows.end length (ap Err at) in (
           omega (arith, end.0, grew),
           end.1,

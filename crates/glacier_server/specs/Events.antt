@@ -1,7 +1,8 @@
 -- What a message's call of the store does.
 use Rattle.std.specs.Prelude.{◌≡◌, ℕ, ◌+◌, ◌<◌, ◌^◌, List, Result, IfOk, IsErrOf}
 use Rattle.glacier_disk.specs.Told.{Told}
-use Rattle.glacier_machine.specs.Outcomes.{AccountEvent, after_all}
+use Rattle.glacier_machine.specs.Outcomes.{after_all}
+use Rattle.glacier_vault.specs.Accounts.{AccountEvent}
 use Rattle.glacier_server.specs.declared.end.ServeFault.{ServeFault}
 use Rattle.glacier_server.specs.declared.end.ServeFault.TheVariants.{Disk, Memory, JournalEnd}
 use Rattle.glacier_store.specs.Changes.{Changes, Stays}

@@ -17,7 +17,7 @@ use Rattle.glacier_server.specs.Out.{told, Tells}
 use Rattle.glacier_server.specs.Served.{failing_of}
 use Rattle.glacier_server.specs.Session.{Session, HeldWaiting}
 use Rattle.glacier_server.specs.Transfer.{Transfer, current}
-use Rattle.glacier_store.specs.State.{State}
+use Rattle.glacier_vault.specs.Accounts.{Accounts}
 use Rattle.glacier_store.specs.declared.store.Store.{Store}
 
 -- the end that is answered for the end of an input
@@ -72,8 +72,8 @@ pub record Exchange : Type 0 where
   pub input : List ℕ
   pub left : List ℕ
   pub coming : List ℕ
-  pub before : State
-  pub after : State
+  pub before : Accounts
+  pub after : Accounts
   pub acts : List Act
   pub readings : List ℕ
 

@@ -13,7 +13,7 @@ use Rattle.glacier_server.specs.Does.{Failing, nothing, receiving, sending, brea
 use Rattle.glacier_server.specs.Out.{run, out, Tells}
 use Rattle.glacier_server.specs.Session.{Session, HeldWaiting}
 use Rattle.glacier_server.specs.Transfer.{Transfer, current}
-use Rattle.glacier_store.specs.State.{State}
+use Rattle.glacier_vault.specs.Accounts.{Accounts}
 use Rattle.glacier_store.specs.declared.store.Store.{Store}
 
 -- the messages heard in the bytes were run at these readings, and all that is told was done
@@ -47,7 +47,7 @@ pub record EndsInput (config : Config) (s : Session) (coming : List ℕ) (end : 
   pub none_left : coming ≡ []
 
 -- what is to be done for these bytes, with these readings: for the messages heard in them
-pub record IsOut (config : Config) (taken readings : List ℕ) (state : State) (acts : List Act)
+pub record IsOut (config : Config) (taken readings : List ℕ) (state : Accounts) (acts : List Act)
     : Type 0 where
   pub messages : List Message
   pub rest : List ℕ
@@ -58,7 +58,7 @@ pub record IsOut (config : Config) (taken readings : List ℕ) (state : State) (
   pub acts_are : acts ≡ out config 0 state messages readings ++ interim
 
 -- the same, where each of these messages has its reading
-pub record IsWholeOut (config : Config) (taken readings : List ℕ) (state : State) (acts : List Act)
+pub record IsWholeOut (config : Config) (taken readings : List ℕ) (state : Accounts) (acts : List Act)
     : Type 0 where
   pub is_out : IsOut config taken readings state acts
   pub enough : length is_out.messages ≤ length readings

@@ -3,7 +3,7 @@ use Rattle.std.specs.Prelude.{◌≡◌, ℕ, ◌+◌, ◌<◌, ◌≤◌, true,
 use Rattle.glacier_base.specs.Outside.{one_more}
 use Rattle.glacier_disk.specs.Network.{Connection, Wait, accepted, wait_of}
 use Rattle.glacier_disk.specs.Told.{Told}
-use Rattle.glacier_machine.specs.SignedRequests.{IsKept}
+use Rattle.glacier_machine.specs.SignedRequests.{IsBodyKept}
 use Rattle.glacier_server.specs.Acts.{sends, bytes_of}
 use Rattle.glacier_server.specs.Does.{Does, Failing, nothing, receiving, sending, breaking}
 use Rattle.glacier_server.specs.Session.{Session, taking, acting}
@@ -115,7 +115,7 @@ pub record TakesOf (old new : Told) (missing left : ℕ) (failing : Failing) : T
 -- kept of it
 pub record TakesBody (old new : Told) (here kept : List ℕ) (missing left : ℕ) : Type 0 where
   pub rest : TakesOf old new missing left nothing
-  pub keeps : left ≡ 0 → IsKept kept (here ++ rest.got)
+  pub keeps : left ≡ 0 → IsBodyKept kept (here ++ rest.got)
 
 -- all these bytes were sent, and nothing else was done
 abbrev pub SentAll : Told → Told → List ℕ → Type 0

@@ -4,7 +4,7 @@ ghost use Rattle.glacier_http.specs.Spans.{IsGood};
 ghost use Rattle.glacier_machine.specs.Outcomes.{refusal_outcome, request_outcome, rules_of, one};
 ghost use Rattle.glacier_replies.specs.Messages.{HasAsciiText};
 ghost use Rattle.glacier_replies.specs.Refusals.{head_refusal};
-ghost use Rattle.glacier_machine.specs.SignedRequests.{IsKept};
+ghost use Rattle.glacier_machine.specs.SignedRequests.{IsBodyKept};
 ghost use Rattle.glacier_server.specs.Events.{KeepsEvents, IsCallFault, IsFault};
 ghost use Rattle.glacier_server.specs.Front.{AtFront};
 ghost use Rattle.glacier_server.specs.Machine.{HasShortNames, IsPrintableIn, told_of, told_head, happened};
@@ -129,11 +129,11 @@ impl Service<'_> {
         reading: Moment,
     ) -> Result<(Reply, Store), ServeFault>
         requires { (D.told disk.old).opened ≡ true }
-        ensures reply { (body : List ℕ) → length body ≡ size → IsKept kept.now body → IfOk result
+        ensures reply { (body : List ℕ) → length body ≡ size → IsBodyKept kept.now body → IfOk result
             (λ r. r.0 ≡ (told_head self.now.config.now store.accounts head.now body reading).reply) }
         ensures printable { IfOk result (λ r. IsPrintableIn MOST_HEAD_TEXT r.0) }
         ensures keeps { IsTrue D.tells → (body : List ℕ) → length body ≡ size →
-            IsKept kept.now body → KeepsEvents (D.told disk.old) (D.told disk.new) store
+            IsBodyKept kept.now body → KeepsEvents (D.told disk.old) (D.told disk.new) store
             (told_head self.now.config.now store.accounts head.now body reading).events result }
         ensures fault { ShowsDisk result (D.told disk.old) (D.told disk.new) }
         ensures alone { D.by_disk disk.old disk.new }

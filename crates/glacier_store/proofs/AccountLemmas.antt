@@ -15,8 +15,8 @@ use Rattle.glacier_vault.specs.declared.event.Event.{Event}
 use Rattle.glacier_vault.specs.declared.state.AccountState.{AccountState}
 use Rattle.glacier_machine.specs.declared.action.Answer.{Answer}
 use Rattle.glacier_machine.specs.AccountSteps.{after_event, after_change, fits, after_fitting}
-use Rattle.glacier_machine.specs.Outcomes.{Accounts, account_in, after_all, events_of}
-use Rattle.glacier_store.specs.State.{AllLawful}
+use Rattle.glacier_machine.specs.Outcomes.{after_all, events_of}
+use Rattle.glacier_vault.specs.Accounts.{Accounts, account_in, AllLawful}
 
 pub none_lawful : AllLawful map.empty
 none_lawful = if_some-empty (slice_cmp nat_cmp) IsLawful

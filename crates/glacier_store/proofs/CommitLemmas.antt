@@ -16,7 +16,7 @@ use Rattle.glacier_store.specs.Changes.{Changes}
 use Rattle.glacier_store.specs.Faults.{store_fault}
 use Rattle.glacier_store.specs.Replayed.{Makes}
 use Rattle.glacier_store.specs.Stands.{Kept, IsKeptBy}
-use Rattle.glacier_store.specs.State.{State}
+use Rattle.glacier_vault.specs.Accounts.{Accounts}
 use Rattle.glacier_store.specs.declared.fault.StoreFault.{StoreFault}
 use Rattle.glacier_store.specs.declared.fault.StoreFault.TheVariants as fault
 use Rattle.glacier_store.specs.declared.store.Store.{Store}
@@ -24,11 +24,11 @@ use Rattle.glacier_store.proofs.EventLemmas.{Leads}
 use Rattle.glacier_store.proofs.ReplayedLemmas.{makes-push}
 use Rattle.glacier_store.proofs.StandsLemmas.{listed_stands}
 
-module _ (old new : Told) (store : Store) (after : State) (payload : List ℕ) (r : Record) (spells : Spells payload r)
+module _ (old new : Told) (store : Store) (after : Accounts) (payload : List ℕ) (r : Record) (spells : Spells payload r)
     (leads : Leads store.accounts r after)
     (appends : Appends store.journal.area store.journal.length payload old new) where
   made : (kept : Kept old store) → Makes (kept.payloads ++ payload ∷ []) after
-  made kept = subst (λ (s : State). Makes (kept.payloads ++ payload ∷ []) s) (sym leads.after_is)
+  made kept = subst (λ (s : Accounts). Makes (kept.payloads ++ payload ∷ []) s) (sym leads.after_is)
       (makes-push kept.payloads store.accounts payload r kept.made spells leads.fits)
 
   -- an append changes the state by its event, or not

@@ -5,12 +5,12 @@ use Rattle.glacier_vault.specs.declared.event.Event.{Event}
 use Rattle.glacier_vault.specs.declared.event.Event.TheVariants as events
 use Rattle.glacier_vault.specs.declared.state.AccountState.{AccountState}
 use Rattle.glacier_machine.specs.AccountSteps.{fits}
-use Rattle.glacier_machine.specs.Outcomes.{account_in, after_all, events_of}
+use Rattle.glacier_machine.specs.Outcomes.{after_all, events_of}
+use Rattle.glacier_vault.specs.Accounts.{Accounts, account_in}
 use Rattle.glacier_records.specs.declared.records.Record.{Record}
 use Rattle.glacier_records.specs.declared.records.Item.TheVariants as item
 use Rattle.glacier_store.specs.Events.{HasSpelling}
 use Rattle.glacier_store.specs.Replayed.{fits_in, after_record}
-use Rattle.glacier_store.specs.State.{State}
 
 -- an event fits, if there is one
 abbrev pub Fit : ℕ → AccountState → Option Event → Type 0
@@ -38,11 +38,11 @@ fit_spelled m before None fit = tt
 fit_spelled m before (Some event) fit = fitting_spelled m before event fit
 
 -- a record fits a state, and makes the other of it
-pub record Leads (before : State) (r : Record) (after : State) : Type 0 where
+pub record Leads (before : Accounts) (r : Record) (after : Accounts) : Type 0 where
   pub fits : fits_in before r ≡ true
   pub after_is : after ≡ after_record before r
 
-pub event_leads : (before after : State) (account : List ℕ) (m : ℕ) (happened : Option Event) (e : Event)
+pub event_leads : (before after : Accounts) (account : List ℕ) (m : ℕ) (happened : Option Event) (e : Event)
     → happened ≡ Some e → Fit m (account_in before account) happened
     → after ≡ after_all before (events_of account m happened)
     → Leads before (record { account = account; moment = m; item = item.Event e [] }) after

@@ -8,8 +8,8 @@ use Rattle.glacier_extents.specs.declared.run.Run.{Run}
 use Rattle.glacier_extents.specs.Runs.{block_count, has_block}
 use Rattle.glacier_vault.specs.declared.event.Event.{Event}
 use Rattle.glacier_vault.specs.declared.state.AccountState.{AccountState}
-use Rattle.glacier_replay.specs.Accounts.{Accounts, account_in}
-use Rattle.glacier_replay.specs.Changes.{AccountEvent, State, accounts_after, after_account_event, blobs_after, body_in, leaf_count, new_blob, with_new, without_blobs}
+use Rattle.glacier_vault.specs.Accounts.{Accounts, account_in, AccountEvent}
+use Rattle.glacier_replay.specs.Changes.{State, accounts_after, after_account_event, blobs_after, body_in, leaf_count, new_blob, with_new, without_blobs}
 use Rattle.glacier_replay.specs.Made.{EventFits, IsRest, after_event}
 use Rattle.glacier_replay.specs.Replayed.{Replay}
 use Rattle.glacier_replay.proofs.BlobMaps.{account_is, is_account}

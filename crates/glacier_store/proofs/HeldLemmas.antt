@@ -13,8 +13,8 @@ use Rattle.glacier_journal.specs.Listed.{Listed, Payloads, Picks}
 use Rattle.glacier_journal.specs.declared.journal.Journal.{Journal}
 use Rattle.glacier_records.specs.Spells.{Spells}
 use Rattle.glacier_vault.specs.Lawful.{IsLawful}
-use Rattle.glacier_replay.specs.Accounts.{account_in}
-use Rattle.glacier_replay.specs.Changes.{AccountEvent, IsBodyOf, State, after_account_event}
+use Rattle.glacier_vault.specs.Accounts.{account_in, AccountEvent}
+use Rattle.glacier_replay.specs.Changes.{IsBodyOf, State, after_account_event}
 use Rattle.glacier_replay.specs.Made.{EventFits, after_event, record_of}
 use Rattle.glacier_replay.specs.Standing.{IsStateOf, Stands}
 use Rattle.glacier_replay.proofs.StateLemmas.{state_after}

@@ -14,8 +14,8 @@ use Rattle.glacier_journal.specs.Appending.{Appends, IsDurable}
 use Rattle.glacier_journal.specs.Listed.{AllList, Payloads}
 use Rattle.glacier_journal.specs.declared.journal.Journal.{Journal}
 use Rattle.glacier_records.specs.Spells.{Spells}
-use Rattle.glacier_replay.specs.Accounts.{Accounts, account_in}
-use Rattle.glacier_replay.specs.Changes.{AccountEvent, IsBodyOf, State, after_account_event, leaf_count, new_blob, with_new, without_blobs}
+use Rattle.glacier_vault.specs.Accounts.{Accounts, account_in, AccountEvent}
+use Rattle.glacier_replay.specs.Changes.{IsBodyOf, State, after_account_event, leaf_count, new_blob, with_new, without_blobs}
 use Rattle.glacier_replay.specs.Made.{EventFits, IsRest, nothing, record_of}
 use Rattle.glacier_replay.proofs.SettledLemmas.{leads_settled, nothing_settled}
 use Rattle.glacier_store.specs.Held.{IsHeldBy, IsRestBeside}

@@ -7,7 +7,7 @@ use Rattle.glacier_journal.specs.Listed.{bytes_of, placed, behind}
 use Rattle.glacier_records.specs.declared.records.Record.{Record}
 use Rattle.glacier_records.specs.Spells.{Spells}
 use Rattle.glacier_store.specs.Replayed.{Makes, BadRecord, fits_in}
-use Rattle.glacier_store.specs.State.{State}
+use Rattle.glacier_vault.specs.Accounts.{Accounts}
 
 abbrev at_of : List Payload → ℕ
 at_of [] = 0
@@ -44,7 +44,7 @@ module _ (payloads : List Payload) (i : ℕ) (p : Payload) (inside : i < length 
       ∙ bytes_of-append (take i payloads) (p ∷ [])
 
   -- a payload that is no record, or doesn't fit
-  pub bad_at : (state : State) → payloads ≡ placed 16 (bytes_of payloads) → Makes (bytes_of (take i payloads)) state
+  pub bad_at : (state : Accounts) → payloads ≡ placed 16 (bytes_of payloads) → Makes (bytes_of (take i payloads)) state
       → ((r : Record) → Spells p.bytes r → fits_in state r ≡ false) → BadRecord (bytes_of payloads) p.at
   bad_at state places makes refused =
       let before = take i payloads in

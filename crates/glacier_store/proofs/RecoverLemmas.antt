@@ -18,7 +18,7 @@ use Rattle.glacier_journal.specs.declared.fault.JournalFault.{JournalFault}
 use Rattle.glacier_journal.specs.declared.fault.JournalFault.TheVariants as journal
 use Rattle.glacier_journal.specs.declared.journal.Journal.{Journal}
 use Rattle.glacier_journal.proofs.OneList.{breaks_none, one_list}
-use Rattle.glacier_replay.specs.Accounts.{Accounts}
+use Rattle.glacier_vault.specs.Accounts.{Accounts}
 use Rattle.glacier_replay.specs.Changes.{State}
 use Rattle.glacier_replay.specs.Made.{Holdings, IsRest, Makes, nothing}
 use Rattle.glacier_replay.specs.Standing.{IsStateOf, Stands}

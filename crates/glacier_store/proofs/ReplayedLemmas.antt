@@ -7,19 +7,19 @@ use Rattle.glacier_records.specs.declared.records.Record.{Record}
 use Rattle.glacier_records.specs.Spells.{Spells}
 use Rattle.glacier_records.proofs.RecordLaws.{record_again}
 use Rattle.glacier_store.specs.Replayed.{AllSpell, Makes, Adds, BadRecord, fits_in, after_record, replayed}
-use Rattle.glacier_store.specs.State.{State}
+use Rattle.glacier_vault.specs.Accounts.{Accounts}
 
 some_is : {A : Type 0} (x y : A) → Some x ≡ Some y → x ≡ y
 some_is x y e = cc e
 
 -- what records make behind one that fits or doesn't
-abbrev behind : State → Record → List Record → Bool → Option State
+abbrev behind : Accounts → Record → List Record → Bool → Option Accounts
 behind state r more fits = cond fits (replayed (after_record state r) more) None
 
 -- records after others
-replayed-append : (state : State) (all more : List Record) (mid : State) → replayed state all ≡ Some mid
+replayed-append : (state : Accounts) (all more : List Record) (mid : Accounts) → replayed state all ≡ Some mid
     → replayed state (all ++ more) ≡ replayed mid more
-replayed-append state [] more mid e = ap (λ (s : State). replayed s more) (some_is state mid e)
+replayed-append state [] more mid e = ap (λ (s : Accounts). replayed s more) (some_is state mid e)
 replayed-append state (r ∷ all) more mid e =
     at (fits_in state r) (replayed-append (after_record state r) all more mid) e
   where
@@ -41,7 +41,7 @@ pub makes_none : Makes [] map.empty
 makes_none = record { all = []; spelled = tt; made = refl }
 
 -- a record more
-pub makes-push : (payloads : Payloads) (state : State) (payload : List ℕ) (r : Record) → Makes payloads state
+pub makes-push : (payloads : Payloads) (state : Accounts) (payload : List ℕ) (r : Record) → Makes payloads state
     → Spells payload r → fits_in state r ≡ true
     → Makes (payloads ++ payload ∷ []) (after_record state r)
 makes-push payloads state payload r makes spells fits = record {
@@ -50,10 +50,10 @@ makes-push payloads state payload r makes spells fits = record {
   made = replayed-append map.empty makes.all (r ∷ []) state makes.made ∙ ap (behind state r []) fits;
 }
 
-pub makes_added : (payloads : Payloads) (payload : List ℕ) (before after : State) → Makes payloads before
+pub makes_added : (payloads : Payloads) (payload : List ℕ) (before after : Accounts) → Makes payloads before
     → Adds payload before after → Makes (payloads ++ payload ∷ []) after
 makes_added payloads payload before after makes adds =
-    subst (λ (s : State). Makes (payloads ++ payload ∷ []) s) (sym adds.after_is)
+    subst (λ (s : Accounts). Makes (payloads ++ payload ∷ []) s) (sym adds.after_is)
     (makes-push payloads before payload adds.this makes adds.spells adds.fits)
 
 pub spells_one : (bytes : List ℕ) (r q : Record) → Spells bytes r → Spells bytes q → r ≡ q
@@ -71,7 +71,7 @@ all_spell_one (p ∷ payloads) (r ∷ all) (q ∷ other) first second =
     ∙ ap (λ (l : List Record). q ∷ l) (all_spell_one payloads all other first.1 second.1)
 
 -- payloads make one state
-pub makes_one : (payloads : Payloads) (one other : State) → Makes payloads one → Makes payloads other → one ≡ other
+pub makes_one : (payloads : Payloads) (one other : Accounts) → Makes payloads one → Makes payloads other → one ≡ other
 makes_one payloads one other first second =
     let same = all_spell_one payloads first.all second.all first.spelled second.spelled in
     some_is one other (sym first.made ∙ ap (replayed map.empty) same ∙ second.made)
@@ -103,7 +103,7 @@ all_spell-split (p ∷ before) payload more (r ∷ all) spelled =
     }
 
 -- payloads with a bad record make nothing
-pub bad_makes_none : (payloads : Payloads) (at : ℕ) (state : State) → BadRecord payloads at → Makes payloads state → ⊥
+pub bad_makes_none : (payloads : Payloads) (at : ℕ) (state : Accounts) → BadRecord payloads at → Makes payloads state → ⊥
 bad_makes_none payloads at state bad makes =
     let spelled = subst (λ (l : Payloads). AllSpell l makes.all) bad.split makes.spelled in
     let split = all_spell-split bad.before bad.bad bad.more makes.all spelled in

@@ -18,7 +18,8 @@ use Rattle.glacier_treehash.specs.Leaves.{leaves_of}
 use Rattle.glacier_vault.specs.declared.event.Event.{Event}
 use Rattle.glacier_vault.specs.declared.event.Event.TheVariants as events
 use Rattle.glacier_vault.specs.declared.state.AccountState.{AccountState}
-use Rattle.glacier_replay.specs.Changes.{AccountEvent, IsBodyOf, body_in, leaf_count}
+use Rattle.glacier_replay.specs.Changes.{IsBodyOf, body_in, leaf_count}
+use Rattle.glacier_vault.specs.Accounts.{AccountEvent}
 use Rattle.glacier_replay.specs.Made.{record_of}
 use Rattle.glacier_replay.specs.Replayed.{after_event, policy_or_none}
 use Rattle.glacier_replay.proofs.CounterLemmas.{of_there}

@@ -11,7 +11,7 @@ use Rattle.glacier_journal.specs.Listed.{IsNew}
 use Rattle.glacier_journal.specs.declared.journal.Journal.{Journal}
 use Rattle.glacier_store.specs.Changes.{Changes, Stays}
 use Rattle.glacier_store.specs.Stands.{Reads, Refuses, Stands, Kept}
-use Rattle.glacier_store.specs.State.{State}
+use Rattle.glacier_vault.specs.Accounts.{Accounts}
 use Rattle.glacier_store.specs.declared.fault.StoreFault.{StoreFault}
 use Rattle.glacier_store.specs.declared.fault.StoreFault.TheVariants as fault
 use Rattle.glacier_store.specs.declared.store.Store.{Store}
@@ -41,14 +41,14 @@ pub record Opens (old new : Told) (result : Result Store StoreFault) : Type 0 wh
   pub kept : IfOk result (λ store. Kept new store)
   pub refuses : (area : Area) (at : ℕ) → IsErrOf result (fault.NotAJournal area at) → Refuses old.reads area at
   -- where the disk stands for a state, it is opened as that state, or not for want of memory or by a fault of it
-  pub found : (state : State) → Stands old.reads state → IfOk result (λ store. store.accounts ≡ state)
-  pub not_refused : (state : State) → Stands old.reads state
+  pub found : (state : Accounts) → Stands old.reads state → IfOk result (λ store. store.accounts ≡ state)
+  pub not_refused : (state : Accounts) → Stands old.reads state
       → IfErr result (λ why. (why ≡ fault.Disk) ⊎ (why ≡ fault.Memory))
   pub looks : Looks old new
 
 -- The state of a store becomes another: a crash at any moment of the call leaves the one or the other, if the store
 -- was kept, and no other area than the journal's changes.
-pub record Commits {T : Type 0} (old new : Told) (store : Store) (after : State)
+pub record Commits {T : Type 0} (old new : Told) (store : Store) (after : Accounts)
     (result : Result (Store × T) StoreFault) : Type 0 where
   pub any_moment : Kept old store → Changes old new store.accounts after
   pub memory : Kept old store → IsErrOf result fault.Memory → Stays old new store.accounts

@@ -2,7 +2,7 @@
 use Rattle.std.specs.Prelude.{◌≡◌, ◌<◌, ℕ, List, Some}
 use Rattle.glacier_bodies.specs.Stands.{Layouts, at_blob}
 use Rattle.glacier_extents.specs.declared.run.Run.{Run}
-use Rattle.glacier_replay.specs.Accounts.{Accounts, account_in}
+use Rattle.glacier_vault.specs.Accounts.{Accounts, account_in}
 
 -- each blob has a number that its account drew
 abbrev pub AreDrawn : Accounts → Layouts → Type 0

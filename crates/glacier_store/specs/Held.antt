@@ -11,7 +11,7 @@ use Rattle.glacier_extents.specs.Runs.{has_block}
 use Rattle.glacier_journal.specs.Breaks.{Breaks}
 use Rattle.glacier_journal.specs.Listed.{Payloads, Listed, AllList}
 use Rattle.glacier_journal.specs.declared.journal.Journal.{Journal}
-use Rattle.glacier_replay.specs.Accounts.{Accounts}
+use Rattle.glacier_vault.specs.Accounts.{Accounts}
 use Rattle.glacier_replay.specs.Changes.{State}
 use Rattle.glacier_replay.specs.Made.{BadRecord, IsRest, Makes}
 use Rattle.glacier_replay.specs.Standing.{IsStateOf, Stands}

@@ -16,8 +16,8 @@ use Rattle.glacier_records.specs.Spells.{spelling}
 use Rattle.glacier_vault.specs.Lawful.{IsLawful}
 use Rattle.glacier_vault.specs.declared.event.Event.{Event}
 use Rattle.glacier_vault.specs.declared.state.AccountState.{AccountState}
-use Rattle.glacier_replay.specs.Accounts.{Accounts, account_in}
-use Rattle.glacier_replay.specs.Changes.{AccountEvent, State, change_in}
+use Rattle.glacier_vault.specs.Accounts.{Accounts, account_in, AccountEvent}
+use Rattle.glacier_replay.specs.Changes.{State, change_in}
 use Rattle.glacier_replay.specs.Made.{record_of}
 use Rattle.glacier_replay.specs.Standing.{Stands}
 use Rattle.glacier_store.specs.Held.{Becomes, IsHeldBy, IsKept, IsRestBeside, ReadsAs, Refuses, Remains}

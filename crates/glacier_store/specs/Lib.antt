@@ -8,6 +8,5 @@ pub mod HoldingCalls
 pub mod PolicyCode
 pub mod Replayed
 pub mod Stands
-pub mod State
 pub mod StateCode
 pub mod VaultCode

@@ -8,10 +8,10 @@ use Rattle.glacier_journal.specs.Listed.{Payloads, Listed, AllList}
 use Rattle.glacier_journal.specs.declared.journal.Journal.{Journal}
 use Rattle.glacier_store.specs.declared.store.Store.{Store}
 use Rattle.glacier_store.specs.Replayed.{Makes, BadRecord}
-use Rattle.glacier_store.specs.State.{State}
+use Rattle.glacier_vault.specs.Accounts.{Accounts}
 
 -- what opening finds: the image lists payloads that make the state
-pub record Reads (image : Image) (state : State) : Type 0 where
+pub record Reads (image : Image) (state : Accounts) : Type 0 where
   pub area : Area
   pub payloads : Payloads
   pub end : ℕ
@@ -19,7 +19,7 @@ pub record Reads (image : Image) (state : State) : Type 0 where
   pub made : Makes payloads state
 
 -- An image stands for a state: what opening finds is that state.
-pub record Stands (image : Image) (state : State) : Type 0 where
+pub record Stands (image : Image) (state : Accounts) : Type 0 where
   pub reads : Reads image state
 
 -- the image lists payloads, and at this place the first that spells no record, or one that doesn't fit
@@ -35,7 +35,7 @@ Refuses image area at = Breaks image area at ⊎ HasBadRecord image area at
 
 -- A journal on the disk makes the state: each image that a crash now may leave lists the same payloads where the
 -- journal says.
-pub record IsKeptBy (disk : Told) (journal : Journal) (state : State) : Type 0 where
+pub record IsKeptBy (disk : Told) (journal : Journal) (state : Accounts) : Type 0 where
   pub payloads : Payloads
   pub listed : AllList disk.leaves journal.area payloads journal.length
   pub made : Makes payloads state
@@ -45,5 +45,5 @@ abbrev pub Kept : Told → Store → Type 0
 Kept disk store = IsKeptBy disk store.journal store.accounts
 
 -- each image that a crash now may leave stands for the state
-abbrev pub AllStand : Told → State → Type 0
+abbrev pub AllStand : Told → Accounts → Type 0
 AllStand disk state = (i : Image) → disk.leaves i → Stands i state

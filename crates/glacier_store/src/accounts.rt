@@ -2,7 +2,7 @@
 ghost use Rattle.std.specs.Prelude.{◌≡◌, OnOk, if◌then◌else◌};
 ghost use Rattle.std.specs.FinMap as map;
 ghost use Rattle.std.specs.Option.{option_copied};
-ghost use Rattle.glacier_machine.specs.Outcomes.{account_in};
+ghost use Rattle.glacier_vault.specs.Accounts.{account_in};
 ghost use Rattle.glacier_vault.specs.Lawful.{IsLawful};
 
 use glacier_base::{Account, AccountMap, Memory, Moment};
@@ -17,10 +17,10 @@ pub struct Accounts {
 }
 
 impl Model for Accounts {
-    ghost use Rattle.glacier_store.specs.State.{State, AllLawful};
+    ghost use Rattle.glacier_vault.specs.Accounts.{Accounts as AllAccounts, AllLawful};
     ghost use Rattle.glacier_store.specs.StateCode.{state_code};
 
-    ghost Value = { State };
+    ghost Value = { AllAccounts };
 
     ghost coded = { state_code };
 

@@ -2,7 +2,8 @@
 ghost use Rattle.std.specs.Prelude.{◌≡◌, ◌≤◌, ◌||◌, IfOk, IfSome, IsTrue};
 ghost use Rattle.std.specs.Option.{is_some};
 ghost use Rattle.glacier_machine.specs.AccountSteps.{fits, step_of};
-ghost use Rattle.glacier_machine.specs.Outcomes.{account_in, after_all, events_of};
+ghost use Rattle.glacier_machine.specs.Outcomes.{after_all, events_of};
+ghost use Rattle.glacier_vault.specs.Accounts.{account_in};
 ghost use Rattle.glacier_store.specs.Events.{HasSpelling};
 
 use crate::accounts::Accounts;

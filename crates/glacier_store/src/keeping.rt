@@ -1,12 +1,12 @@
 // Keeping an event in the journal.
 ghost use Rattle.std.specs.Prelude.{◌≡◌, [], true, IsTrue, IfOk, IfSome};
 ghost use Rattle.glacier_machine.specs.AccountSteps.{fits};
-ghost use Rattle.glacier_machine.specs.Outcomes.{account_in, after_all, events_of};
+ghost use Rattle.glacier_machine.specs.Outcomes.{after_all, events_of};
+ghost use Rattle.glacier_vault.specs.Accounts.{Accounts, account_in};
 ghost use Rattle.glacier_records.specs.Spells.{Spells};
 ghost use Rattle.glacier_records.specs.declared.records.Item.TheVariants as item;
 ghost use Rattle.glacier_store.specs.Calls.{Commits, Grows, StoreCall};
 ghost use Rattle.glacier_store.specs.Events.{HasSpelling, room_of};
-ghost use Rattle.glacier_store.specs.State.{State};
 
 use crate::{Store, StoreFault};
 use glacier_base::{Account, List, Memory, Moment};
@@ -44,7 +44,7 @@ pub(crate) fn keep<D: Disk>(
     ensures accounts { IfOk result (λ done. done.0.accounts ≡ store.accounts) }
     ensures answer { IfOk result (λ done. done.1 ≡ answer) }
 
-    ensures commits { IsTrue D.tells → (before : State) →
+    ensures commits { IsTrue D.tells → (before : Accounts) →
         IfSome answer.change.event
         (λ event. IsTrue (fits m (account_in before account.now) event)) →
         store.accounts ≡ after_all before (events_of account.now m answer.change.event) →

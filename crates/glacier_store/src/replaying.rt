@@ -3,7 +3,7 @@ ghost use Rattle.std.specs.Prelude.{◌≡◌, ℕ, true, false, IfOk, IsErrOf};
 ghost use Rattle.glacier_journal.specs.Listed.{bytes_of, placed};
 ghost use Rattle.std.specs.FinMap as map;
 ghost use Rattle.glacier_machine.specs.AccountSteps.{fits, after_event};
-ghost use Rattle.glacier_machine.specs.Outcomes.{account_in};
+ghost use Rattle.glacier_vault.specs.Accounts.{account_in};
 ghost use Rattle.glacier_store.specs.Replayed.{Makes, BadRecord, Adds, fits_item, after_item, fits_in};
 ghost use Rattle.glacier_records.specs.Spells.{Spells};
 ghost use Rattle.glacier_records.specs.declared.records.Record.{Record};

@@ -4,7 +4,7 @@ ghost use Rattle.std.specs.FinMap as map;
 ghost use Rattle.std.specs.Option.{option_copied};
 ghost use Rattle.glacier_disk.specs.declared.area.Area.{Area};
 ghost use Rattle.glacier_machine.specs.AccountSteps.{step_of};
-ghost use Rattle.glacier_machine.specs.Outcomes.{account_in};
+ghost use Rattle.glacier_vault.specs.Accounts.{account_in};
 ghost use Rattle.glacier_store.specs.Calls.{Commits, Creates, Grows, Opens, StoreCall};
 ghost use Rattle.glacier_store.specs.Events.{action_events, after_action, room_of};
 ghost use Rattle.glacier_store.specs.Events.{after_pass, pass_events, pass_moment};

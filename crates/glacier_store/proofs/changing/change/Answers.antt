@@ -3,7 +3,7 @@ use Rattle.std.specs.Option.{is_some}
 use Rattle.std.specs.Prelude.{Bool, ◌||◌}
 use Rattle.glacier_vault.specs.declared.state.AccountState.{AccountState}
 use Rattle.glacier_machine.specs.AccountSteps.{step_of}
-use Rattle.glacier_machine.specs.Outcomes.{account_in}
+use Rattle.glacier_vault.specs.Accounts.{account_in}
 use Rattle.glacier_machine.specs.declared.action.Answer.{Answer}
 use Rattle.glacier_machine.proofs.Fitting.{step_fits}
 use Rattle.glacier_store.proofs.AccountLemmas.{changed_by}

@@ -1,5 +1,5 @@
 use Rattle.std.proofs.Common.{sym, subst}
-use Rattle.glacier_replay.specs.Accounts.{AllLawful}
+use Rattle.glacier_vault.specs.Accounts.{AllLawful}
 use Rattle.glacier_replay.proofs.PutLemmas.{taken_lawful}
 use Rattle.glacier_replay.proofs.accounts.Accounts.take.Goals as goal
 

@@ -1,6 +1,6 @@
 use Rattle.std.proofs.Common.{rules, ◌≡◌, ◌≤◌, ◌-◌, ◌∙◌, ◌++◌, sym, ap, subst, refl, ℕ, List, take, drop, arith}
 use Rattle.std.specs.Option.{is_some}
-use Rattle.glacier_machine.specs.SignedRequests.{IsKept}
+use Rattle.glacier_machine.specs.SignedRequests.{IsBodyKept}
 use Rattle.glacier_server.specs.Exchange.{standing, end_of_good}
 use Rattle.glacier_server.proofs.AnswerLemmas.{kept_body}
 use Rattle.glacier_server.proofs.ExtentLemmas.{extends_by, head_fits, good_of}
@@ -46,7 +46,7 @@ returns-in-Err-replied-clause-broken g c t =
     (end_of_good c.args.count c.args.spans.now.close) c.front_of-kept.result.now
     (kept_body c.args.self.now.config.now (standing c.args.count c.args.buffers.now.unread c.args.store) c.args.buffers.now.head c.args.spans.now _ _ c.now-reading.result c.requires.good
     (extends_by _ _ _ _ _ c.count-length.ensures.same c.extent_of-extent.ensures.used c.extent_of-extent.ensures.left)
-    _ c.bytes.result.now c.bytes.ensures.same _ (subst (λ (l : List ℕ). IsKept l (take (c.extent_of-extent.result.used - c.args.spans.now.head_length)
+    _ c.bytes.result.now c.bytes.ensures.same _ (subst (λ (l : List ℕ). IsBodyKept l (take (c.extent_of-extent.result.used - c.args.spans.now.head_length)
     (drop c.args.spans.now.head_length c.bytes.result.now) ++ (c.in-Ok.ensures.takes t).rest.got)) (sym kept) ((c.in-Ok.ensures.takes t).keeps (omega (arith, c.if-left-gt0.false)))))
     c.in-Err-replied.fault refl law alone c.in-Err-replied.ensures.fault (c.in-Err-replied.ensures.keeps t)
 
@@ -63,7 +63,7 @@ returns-in-Ok-send_reply-clause-exchange g c t =
     c.good_end-end.result c.front_of-kept.result.now
     (kept_body c.args.self.now.config.now (standing c.args.count c.args.buffers.now.unread c.args.store) c.args.buffers.now.head c.args.spans.now _ _ c.now-reading.result c.requires.good
     (extends_by _ _ _ _ _ c.count-length.ensures.same c.extent_of-extent.ensures.used c.extent_of-extent.ensures.left)
-    _ c.bytes.result.now c.bytes.ensures.same _ (subst (λ (l : List ℕ). IsKept l (take (c.extent_of-extent.result.used - c.args.spans.now.head_length)
+    _ c.bytes.result.now c.bytes.ensures.same _ (subst (λ (l : List ℕ). IsBodyKept l (take (c.extent_of-extent.result.used - c.args.spans.now.head_length)
     (drop c.args.spans.now.head_length c.bytes.result.now) ++ (c.in-Ok.ensures.takes t).rest.got)) (sym kept) ((c.in-Ok.ensures.takes t).keeps (omega (arith, c.if-left-gt0.false)))))
     c.good_end-end.ensures.end c.good_end-end.ensures.of_none c.is_some.result flag law alone
     c.in-Ok-replied.replied c.in-Ok-replied.ensures.reply (c.in-Ok-replied.ensures.keeps t)
@@ -82,7 +82,7 @@ returns-clause-exchange g c t =
     c.good_end-end.result c.front_of-kept.result.now
     (kept_body c.args.self.now.config.now (standing c.args.count c.args.buffers.now.unread c.args.store) c.args.buffers.now.head c.args.spans.now _ _ c.now-reading.result c.requires.good
     (extends_by _ _ _ _ _ c.count-length.ensures.same c.extent_of-extent.ensures.used c.extent_of-extent.ensures.left)
-    _ c.bytes.result.now c.bytes.ensures.same _ (subst (λ (l : List ℕ). IsKept l (take (c.extent_of-extent.result.used - c.args.spans.now.head_length)
+    _ c.bytes.result.now c.bytes.ensures.same _ (subst (λ (l : List ℕ). IsBodyKept l (take (c.extent_of-extent.result.used - c.args.spans.now.head_length)
     (drop c.args.spans.now.head_length c.bytes.result.now) ++ (c.in-Ok.ensures.takes t).rest.got)) (sym kept) ((c.in-Ok.ensures.takes t).keeps (omega (arith, c.if-left-gt0.false)))))
     c.good_end-end.ensures.end c.good_end-end.ensures.of_none c.is_some.result flag law alone
     c.in-Ok-replied.replied c.in-Ok-replied.ensures.reply (c.in-Ok-replied.ensures.keeps t)

@@ -6,7 +6,7 @@ use Rattle.glacier_server.specs.Machine.{told_head}
 use Rattle.glacier_server.proofs.ReplyLemmas.{head_happened}
 use Rattle.glacier_server.proofs.service.Service.reply_to_message.Goals as goal
 use Rattle.glacier_store.specs.declared.store.Store.{Store}
-use Rattle.glacier_machine.specs.Outcomes.{AccountEvent}
+use Rattle.glacier_vault.specs.Accounts.{AccountEvent}
 use Rattle.glacier_server.specs.Events.{KeepsEvents}
 
 pub returns-clause-reply : goal.returns-clause-reply

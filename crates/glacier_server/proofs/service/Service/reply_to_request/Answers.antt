@@ -1,7 +1,7 @@
 use Rattle.std.proofs.Common.{List, Ok, Err, sym, ap, subst}
 use Rattle.glacier_http.specs.declared.reply.Reply.{Reply}
 use Rattle.glacier_machine.specs.declared.action.Answer.{Answer}
-use Rattle.glacier_machine.specs.Outcomes.{AccountEvent, account_in}
+use Rattle.glacier_vault.specs.Accounts.{account_in, AccountEvent}
 use Rattle.glacier_server.specs.Events.{KeepsEvents}
 use Rattle.glacier_server.proofs.StoreCallLemmas.{events_are, action_done, action_broken, pass_broken}
 use Rattle.glacier_server.specs.Machine.{IsPrintableIn}

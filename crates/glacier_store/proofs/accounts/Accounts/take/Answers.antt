@@ -1,5 +1,5 @@
 use Rattle.std.proofs.Common.{sym, subst}
-use Rattle.glacier_store.specs.State.{AllLawful}
+use Rattle.glacier_vault.specs.Accounts.{AllLawful}
 use Rattle.glacier_store.proofs.AccountLemmas.{taken_lawful}
 use Rattle.glacier_store.proofs.accounts.Accounts.take.Goals as goal
 

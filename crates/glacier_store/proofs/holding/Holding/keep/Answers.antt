@@ -3,7 +3,7 @@ use Rattle.std.specs.Prelude.{Result}
 use Rattle.glacier_extents.specs.declared.run.Run.{Run}
 use Rattle.glacier_records.specs.Room.{EventHasRoom}
 use Rattle.glacier_records.specs.Spells.{Spells}
-use Rattle.glacier_replay.specs.Accounts.{account_in}
+use Rattle.glacier_vault.specs.Accounts.{account_in}
 use Rattle.glacier_replay.specs.Changes.{with_new}
 use Rattle.glacier_replay.specs.Made.{record_of}
 use Rattle.glacier_replay.specs.Replayed.{replayed}

@@ -6,7 +6,7 @@ use Rattle.glacier_bodies.specs.BlobAreas.{with_blob}
 use Rattle.glacier_bodies.specs.Stands.{AreApart, Layouts}
 use Rattle.glacier_records.specs.Room.{EventHasRoom}
 use Rattle.glacier_records.specs.Spells.{Spells}
-use Rattle.glacier_replay.specs.Accounts.{account_in}
+use Rattle.glacier_vault.specs.Accounts.{account_in}
 use Rattle.glacier_replay.specs.Changes.{with_new}
 use Rattle.glacier_replay.specs.Made.{IsRest, record_of}
 use Rattle.glacier_replay.proofs.RestLemmas.{apart_with}
