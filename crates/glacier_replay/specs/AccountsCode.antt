@@ -6,7 +6,7 @@ use Rattle.std.specs.FinMap as map
 use Rattle.std.specs.Ordering.{nat_cmp}
 use Rattle.glacier_vault.specs.declared.state.AccountState.{AccountState}
 use Rattle.glacier_vault.specs.declared.state.VaultState.{VaultState}
-use Rattle.glacier_replay.specs.Accounts.{Accounts}
+use Rattle.glacier_vault.specs.Accounts.{Accounts}
 use Rattle.glacier_replay.specs.PolicyCode.{bytes_code}
 use Rattle.glacier_replay.specs.VaultCode.{vault_code}
 

@@ -6,7 +6,7 @@ use Rattle.glacier_bodies.specs.Stands.{ByBlob, Bodies}
 use Rattle.glacier_treehash.specs.Leaves.{leaves_of}
 use Rattle.glacier_vault.specs.declared.event.Event.{Event}
 use Rattle.glacier_vault.specs.declared.event.Event.TheVariants as events
-use Rattle.glacier_vault.specs.Accounts.{Accounts, account_in}
+use Rattle.glacier_vault.specs.Accounts.{Accounts, account_in, AccountEvent}
 use Rattle.glacier_replay.specs.Replayed.{Replay, replayed}
 
 -- the size and the leaves of an event's body, if it has one
