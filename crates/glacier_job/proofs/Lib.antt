@@ -1,7 +1,6 @@
 pub mod BeginLemmas
 pub mod DueLemmas
 pub mod IsEvent
-pub mod NamingLemmas
 pub mod NotDue
 pub mod PassFrees
 pub mod PassLawful

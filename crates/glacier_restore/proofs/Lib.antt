@@ -1,5 +1,4 @@
 pub mod AgainLemmas
-pub mod AnyLemmas
 pub mod CountLemmas
 pub mod EachLemmas
 pub mod GrownLemmas

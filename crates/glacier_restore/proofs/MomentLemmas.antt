@@ -27,7 +27,7 @@ use Rattle.glacier_vault.proofs.SoonerLemmas.{sooner-none, sooner-assoc, sooner-
 use Rattle.glacier_vault.proofs.SoonestLemmas.{soonest-missing, soonest-changed_at, any-keys-insert}
 use Rattle.glacier_restore.specs.Moments.{asks_held, names_held}
 use Rattle.glacier_restore.specs.Putting.{with_archive, with_finished, with_job, one_line_more, with_line, in_job, with_lock}
-use Rattle.glacier_restore.proofs.AnyLemmas.{any-empty, any-insert, any-changed_at, any_same}
+use Rattle.glacier_vault.proofs.AnyLemmas.{any-empty, any-insert, any-changed_at, any_same}
 
 -- nothing is sooner than 0
 at_once : (a : Option ℕ) → sooner a (Some 0) ≡ Some 0

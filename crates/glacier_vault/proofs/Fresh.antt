@@ -89,5 +89,6 @@ module _ (counter last : ℕ) (vault : VaultState) (lawful : IsLawfulVault count
         jobs = λ n. weaker (IsDrawn counter (IsLawfulJob counter last vault.archives vault.held) n) (IsDrawn (counter + 1) (IsLawfulJob (counter + 1) last (map.insert vault.archives counter archive) vault.held) n) (map.get vault.jobs n)
             (λ job h. record { drawn = omega (arith, h.drawn); right = record { created = h.right.created; work = work_beside job.stage job.work h.right.work } }) (lawful.jobs n);
         lock = up.lock;
+        named = up.named;
         due = up.due;
       }

@@ -67,5 +67,6 @@ module _ (c d : ℕ) (more : c ≤ d) where
           open_or_finished = h.open_or_finished;
           jobs = λ n. weaker _ _ _ (later_drawn (IsLawfulJob c k vault.archives vault.held) (IsLawfulJob d l vault.archives vault.held) (later_job vault.archives vault.held) n) (h.jobs n);
           lock = weaker _ _ _ later_lock h.lock;
+          named = h.named;
           due = h.due;
         }

@@ -135,6 +135,7 @@ module _ (number : ℕ) (vault : VaultState) (archive : Archive) (live : map.get
       finished = lawful.finished;
       open_or_finished = lawful.open_or_finished;
       jobs = λ n. weaker_there (IsDrawn counter (IsLawfulJob counter last vault.archives vault.held) n) (IsDrawn counter (IsLawfulJob counter last (map.remove vault.archives number) (without_archive number vault).held) n) (map.get vault.jobs n) (λ job there h. record { drawn = h.drawn; right = record { created = h.right.created; work = work_after job n there job.work refl h.right.work } }) (lawful.jobs n);
+      named = lawful.named;
       lock = lawful.lock;
       due = lawful.due ∙ sym content_due-without;
     }

@@ -3,16 +3,16 @@ ghost use Rattle.std.specs.Prelude.{◌≡◌, ◌≤◌, ◌+◌, ◌-◌, IfOk
 ghost use Rattle.std.specs.FinMap as map;
 ghost use Rattle.glacier_vault.specs.Deletions.{has_content, is_locked, deletion_refusal, delete_row, may_go, held_blobs, without_archive, freed_by_deletion, room_freed, length_freed, live_archive, deletion};
 ghost use Rattle.glacier_vault.specs.Lawful.{IsLawful};
-ghost use Rattle.glacier_vault.specs.Named.{is_done, names, is_named, is_of, blobs_of};
+ghost use Rattle.glacier_vault.specs.Named.{blobs_of, named_in};
 ghost use Rattle.glacier_vault.specs.Rows.{answer, state_after, in_vault, with_vaults};
 ghost use Rattle.glacier_vault.specs.Totals.{blocks, bytes_in};
 
 use crate::archive::Archive;
 use crate::due::due_of_vaults;
 use crate::event::{Change, Event};
-use crate::job::{Job, Stage, Work};
 use crate::lengths::{length_without_archive, length_without_vault, name_length};
 use crate::lock::Lock;
+use crate::naming::is_named;
 use crate::refusal::Refusal;
 use crate::room::blocks_of;
 use crate::state::{AccountState, VaultState};
@@ -55,38 +55,6 @@ fn holds_content(vault: &VaultState) -> bool
     ensures { result ≡ has_content vault.now }
 {
     vault.archives.len() >= 1 || vault.uploads.len() >= 1
-}
-
-/// Whether what is asked for is of this archive.
-fn asks_for(number: u64, work: &Work) -> bool
-    ensures { result ≡ is_of number work.now }
-{
-    match work {
-        Work::Archive { archive, .. } => *archive == number,
-        Work::Inventory { .. } => false,
-    }
-}
-
-fn is_done_stage(stage: &Stage) -> bool
-    ensures { result ≡ is_done stage.now }
-{
-    match stage {
-        Stage::Done(_) => true,
-        _ => false,
-    }
-}
-
-/// Whether a job is done and names the archive.
-fn job_names(number: u64, job: &Job) -> bool
-    ensures { result ≡ names number job.now }
-{
-    is_done_stage(&job.stage) && asks_for(number, &job.work)
-}
-
-fn some_job_names(number: u64, jobs: &NumberMap<Job>) -> bool
-    ensures { result ≡ is_named jobs.now number }
-{
-    jobs.values().any(|job| job_names(number, job))
 }
 
 /// Why a vault isn't deleted: it holds an archive or an open upload (`VaultNotEmpty`), or is locked
@@ -189,7 +157,8 @@ fn take_out(
     n: u64,
 ) -> Result<Freed, Memory>
     requires live { IsSome (map.get vault.old.archives number) }
-    requires bytes { vault.old.bytes ≡ bytes_in vault.old.archives }
+    requires kept { (vault.old.bytes ≡ bytes_in vault.old.archives)
+        × (vault.old.named ≡ named_in vault.old.jobs) }
     requires within { length_freed n number vault.old ≤ length }
 
     ensures vault { OnOk result (vault.new ≡ without_archive number vault.old) }
@@ -197,7 +166,7 @@ fn take_out(
     ensures sizes { IfOk result (λ freed. (freed.room ≡ room_freed number vault.old)
         × (freed.length + length_freed n number vault.old ≡ length)) }
 {
-    let named = some_job_names(number, &vault.jobs);
+    let named = is_named(vault, number);
     let Some(archive) = vault.archives.remove(number) else {
         unreachable!();
     };

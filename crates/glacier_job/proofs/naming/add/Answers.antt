@@ -1,7 +1,7 @@
 use Rattle.std.proofs.Common.{◌∙◌, ◌||◌, ap, sym}
 use Rattle.std.specs.FinMap as map
 use Rattle.glacier_job.specs.Naming.{is_archive}
-use Rattle.glacier_job.proofs.NamingLemmas.{contains-insert}
+use Rattle.glacier_vault.proofs.NamingLemmas.{contains-insert}
 use Rattle.glacier_job.proofs.naming.add.Goals as goal
 
 pub returns : goal.returns

@@ -3,7 +3,7 @@ use Rattle.std.proofs.lemmas.Grind.{common_steps}
 use Rattle.std.specs.FinMap as map
 use Rattle.std.specs.List.{list_any}
 use Rattle.glacier_job.specs.Naming.{names_at}
-use Rattle.glacier_job.proofs.NamingLemmas.{contains-empty}
+use Rattle.glacier_vault.proofs.NamingLemmas.{contains-empty}
 use Rattle.glacier_job.proofs.PassLemmas.{is_named-jobs_after}
 use Rattle.glacier_job.proofs.naming.named_archives_at.Goals as goal
 

@@ -4,7 +4,7 @@ use Rattle.glacier_vault.proofs.WithoutArchive.{bytes-without}
 use Rattle.glacier_vault.proofs.deletion.take_out.Goals as goal
 
 pub overflow_sub-vault : goal.overflow_sub-vault
-overflow_sub-vault c = omega (arith, c.requires.bytes, bytes-without c.args.number c.args.vault.now c.in-Some.archive (sym c.in-Some.ensures.value))
+overflow_sub-vault c = omega (arith, c.requires.kept.0, bytes-without c.args.number c.args.vault.now c.in-Some.archive (sym c.in-Some.ensures.value))
 
 pub returns-then-named-clause-vault : goal.returns-then-named-clause-vault
 returns-then-named-clause-vault c =
