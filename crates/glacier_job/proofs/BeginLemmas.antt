@@ -29,6 +29,7 @@ use Rattle.glacier_vault.proofs.Fresh.{fresh}
 use Rattle.glacier_vault.proofs.KeepsLawful.{lawful-changed_at, lawful_there}
 use Rattle.glacier_vault.proofs.Later.{later_vault}
 use Rattle.glacier_vault.proofs.LengthLemmas.{length-changed_at}
+use Rattle.glacier_vault.proofs.NamingLemmas.{named_in-waiting}
 use Rattle.glacier_vault.proofs.TotalsLemmas.{total-changed_at}
 use Rattle.glacier_job.specs.Beginning.{limit_refusal, accepted_work, new_job, with_job, after_put, FitsIn, ready_at, begin_event, begin_row}
 use Rattle.glacier_job.specs.Work.{is_bad_range, is_bad_job_range, range_first, range_end, retrieval, work_of, HasOrderedRange}
@@ -117,6 +118,7 @@ module _ (counter last : ℕ) (vault : VaultState) (lawful : IsLawfulVault count
         open_or_finished = lawful.open_or_finished;
         jobs = λ n. if_some-insert nat_cmp_total map.nat_cmp-IsAntisymmetric (IsDrawn (counter + 1) (IsLawfulJob (counter + 1) last vault.archives vault.held)) vault.jobs counter n job
             (record { drawn = omega arith; right = right }) (up.jobs n);
+        named = lawful.named ∙ sym (named_in-waiting vault.jobs counter job number_free waits);
         lock = up.lock;
         due = ap (λ d. sooner d (job_due job)) lawful.due ∙ sym (content_due-with_job counter job waits vault number_free);
       }

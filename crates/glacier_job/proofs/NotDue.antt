@@ -14,7 +14,7 @@ use Rattle.glacier_base.proofs.Finite.{bytes_cmp-IsAntisymmetric}
 use Rattle.glacier_vault.specs.Due.{content_due, due_in}
 use Rattle.glacier_vault.specs.Lawful.{IsLawful, IsLawfulVault}
 use Rattle.glacier_vault.specs.Lengths.{snapshot_length}
-use Rattle.glacier_vault.specs.Named.{is_named, is_waiting, blobs_of}
+use Rattle.glacier_vault.specs.Named.{is_named, is_waiting, named_in, blobs_of}
 use Rattle.glacier_vault.specs.Totals.{Archives, used_in, uploads_in, jobs_in}
 use Rattle.glacier_vault.specs.declared.archive.Finished.{Finished}
 use Rattle.glacier_vault.specs.declared.job.Job.{Job}
@@ -26,6 +26,11 @@ use Rattle.glacier_vault.specs.declared.state.VaultState.{VaultState}
 use Rattle.glacier_vault.proofs.Later.{weaker}
 use Rattle.glacier_vault.proofs.ValuesLemmas.{list_any-values}
 use Rattle.glacier_job.specs.Pass.{outcome, settled, is_past, has_ended, jobs_after, held_after, finished_after, lock_after, left_in, passed, pass, dropped, freed, job_is_due, lock_is_due, vault_is_due, pass_is_event}
+
+-- a vault keeps what its content says
+pub record HasKept (vault : VaultState) : Type 0 where
+  pub due : vault.due ≡ content_due vault
+  pub named : vault.named ≡ named_in vault.jobs
 
 -- neither of two tests holds
 neither : (a b : Bool) → (a || b) ≡ false → (a ≡ false) × (b ≡ false)
@@ -120,8 +125,11 @@ module _ (m : ℕ) where
         ap (λ es. map.from_entries es) (filter_same (λ (upload : Finished). is_past m upload.at) (λ (e : ℕ × Finished). e.1) (λ e. not (is_past m e.1.at)) (λ e d. ap not d) (map.entries vault.finished) jobs_not_due.1)
         ∙ from_entries-entries nat_cmp_total map.nat_cmp-IsAntisymmetric vault.finished
 
-    left_same : left_in m vault ≡ vault
-    left_same = λ i. record {
+    named_same : vault.named ≡ named_in vault.jobs → named_in (jobs_after m vault) ≡ vault.named
+    named_same kept = ap named_in jobs_same ∙ sym kept
+
+    left_same : vault.named ≡ named_in vault.jobs → left_in m vault ≡ vault
+    left_same kept = λ i. record {
       created = vault.created;
       archives = vault.archives;
       bytes = vault.bytes;
@@ -129,11 +137,12 @@ module _ (m : ℕ) where
       uploads = vault.uploads;
       finished = finished_same i;
       jobs = jobs_same i;
+      named = named_same kept i;
       lock = lock_same vault.lock first_two.1 i;
       due = vault.due;
     }
 
-    pub passed_same : vault.due ≡ content_due vault → passed m vault ≡ vault
+    pub passed_same : HasKept vault → passed m vault ≡ vault
     passed_same kept = λ i. record {
       created = vault.created;
       archives = vault.archives;
@@ -142,8 +151,9 @@ module _ (m : ℕ) where
       uploads = vault.uploads;
       finished = finished_same i;
       jobs = jobs_same i;
+      named = named_same kept.named i;
       lock = lock_same vault.lock first_two.1 i;
-      due = (ap (λ v. content_due v) left_same ∙ sym kept) i;
+      due = (ap (λ v. content_due v) (left_same kept.named) ∙ sym kept.due) i;
     }
 
     pub dropped_none : dropped m vault ≡ []
@@ -161,21 +171,21 @@ module _ (m : ℕ) where
     pub freed-not_due : freed m a ≡ []
     freed-not_due = none_freed (map.values a.vaults) none
 
-    -- vaults that keep the moment that is due in them stay
-    pub vaults_same : ((name : List ℕ) → IfSome (map.get a.vaults name) (λ vault. vault.due ≡ content_due vault)) → map_values (passed m) a.vaults ≡ a.vaults
+    -- vaults that keep what is to be kept stay
+    pub vaults_same : ((name : List ℕ) → IfSome (map.get a.vaults name) HasKept) → map_values (passed m) a.vaults ≡ a.vaults
     vaults_same kept = map.same_map nat_list_cmp_total bytes_cmp-IsAntisymmetric _ _ (λ name. get-map_values nat_list_cmp_total (passed m) a.vaults name ∙ at name (map.get a.vaults name) refl (kept name))
       where
         not_due : (name : List ℕ) (vault : VaultState) → map.get a.vaults name ≡ Some vault → (b : Bool) → vault_is_due m vault ≡ b → b ≡ false
         not_due name vault there true e = let some : pass_is_event m a ≡ true = list_any-values (slice_cmp nat_cmp) (vault_is_due m) a.vaults name vault there e in cc
         not_due name vault there false e = refl
 
-        at : (name : List ℕ) (r : Option VaultState) → map.get a.vaults name ≡ r → IfSome r (λ vault. vault.due ≡ content_due vault) → option_map (passed m) r ≡ r
+        at : (name : List ℕ) (r : Option VaultState) → map.get a.vaults name ≡ r → IfSome r HasKept → option_map (passed m) r ≡ r
         at name None there kept = refl
         at name (Some vault) there kept = ap (λ v. Some v) (passed_same vault (not_due name vault there (vault_is_due m vault) refl) kept)
 
     module _ (lawful : IsLawful a) where
       lawful_same : map_values (passed m) a.vaults ≡ a.vaults
-      lawful_same = vaults_same (λ name. weaker (IsLawfulVault a.counter a.last) (λ vault. vault.due ≡ content_due vault) (map.get a.vaults name) (λ vault h. h.due) (lawful.vaults name))
+      lawful_same = vaults_same (λ name. weaker (IsLawfulVault a.counter a.last) HasKept (map.get a.vaults name) (λ vault h. record { due = h.due; named = h.named }) (lawful.vaults name))
 
       pub pass-not_due : pass m a ≡ record a { last = m }
       pass-not_due = λ i. record {

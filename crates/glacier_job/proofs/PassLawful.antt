@@ -121,6 +121,7 @@ module _ (m counter last : ℕ) (vault : VaultState) (lawful : IsLawfulVault cou
     open_or_finished = λ n some. lawful.open_or_finished n (filtered_some (λ (upload : Finished). not (is_past m upload.at)) _ (subst IsSome (get-where_entries nat_cmp_total map.nat_cmp-IsAntisymmetric (λ _ upload. not (is_past m upload.at)) vault.finished n) some));
     jobs = jobs_left;
     lock = lock_left vault.lock lawful.lock;
+    named = refl;
     due = refl;
   }
 

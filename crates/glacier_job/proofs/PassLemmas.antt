@@ -101,9 +101,3 @@ module _ {K X : Type 0} {R : K → K → Ordering} (m : map.FinMap R X) (none : 
 -- where nothing is held, nothing goes
 pub dropped-none : (m : ℕ) (vault : VaultState) → nat_eq (map.len vault.held) 0 ≡ true → dropped m vault ≡ []
 dropped-none m vault none = ap (λ es. each (λ e. e.1) (filter (λ e. not (is_named (jobs_after m vault) e.0)) es)) (entries-none vault.held none)
-
--- and what is held stays as it is
-pub kept-none : (test : ℕ → Archive → Bool) (held : Archives) → nat_eq (map.len held) 0 ≡ true → held ≡ where_entries test held
-kept-none test held none =
-    sym (from_entries-entries nat_cmp_total map.nat_cmp-IsAntisymmetric held)
-    ∙ ap (λ es. map.from_entries es) (entries-none held none ∙ sym (ap (filter (λ e. test e.0 e.1)) (entries-none held none)))

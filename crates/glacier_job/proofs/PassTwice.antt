@@ -23,7 +23,7 @@ use Rattle.glacier_vault.specs.declared.lock.Lock.{Lock}
 use Rattle.glacier_vault.specs.declared.state.AccountState.{AccountState}
 use Rattle.glacier_vault.specs.declared.state.VaultState.{VaultState}
 use Rattle.glacier_job.specs.Pass.{outcome, settled, is_past, has_ended, jobs_after, lock_after, lock_ends, left_in, passed, pass, job_is_due, lock_is_due, vault_is_due, pass_is_event}
-use Rattle.glacier_job.proofs.NotDue.{vaults_same}
+use Rattle.glacier_job.proofs.NotDue.{HasKept, vaults_same}
 use Rattle.glacier_job.proofs.PassLemmas.{outcome_settles}
 
 -- what stays fails a test that all that stays fails
@@ -117,9 +117,9 @@ module _ (m : ℕ) where
       let same = vaults_same m (pass m a) none kept in
       λ i. record { last = m; counter = a.counter; vaults = same i; used = used_in (same i); uploads = uploads_in (same i); jobs = jobs_in (same i); due = due_in (same i); length = snapshot_length (same i) }
     where
-      each_keeps : (r : Option VaultState) → IfSome (option_map (passed m) r) (λ vault. vault.due ≡ content_due vault)
+      each_keeps : (r : Option VaultState) → IfSome (option_map (passed m) r) HasKept
       each_keeps None = tt
-      each_keeps (Some vault) = refl
+      each_keeps (Some vault) = record { due = refl; named = refl }
 
-      kept : (name : List ℕ) → IfSome (map.get (map_values (passed m) a.vaults) name) (λ vault. vault.due ≡ content_due vault)
-      kept name = subst (λ r. IfSome r (λ vault. vault.due ≡ content_due vault)) (sym (get-map_values nat_list_cmp_total (passed m) a.vaults name)) (each_keeps (map.get a.vaults name))
+      kept : (name : List ℕ) → IfSome (map.get (map_values (passed m) a.vaults) name) HasKept
+      kept name = subst (λ r. IfSome r HasKept) (sym (get-map_values nat_list_cmp_total (passed m) a.vaults name)) (each_keeps (map.get a.vaults name))

@@ -10,12 +10,13 @@ use Rattle.glacier_base.specs.Maps.{changed_at, map_values, where_entries}
 use Rattle.glacier_base.proofs.Listed.{entries-where_entries}
 use Rattle.glacier_base.proofs.Sums.{sum_by-changed_at}
 use Rattle.glacier_vault.specs.Lengths.{lengths, archive_length, finished_length, job_length, snapshot_length}
-use Rattle.glacier_vault.specs.Named.{is_named}
+use Rattle.glacier_vault.specs.Named.{Names, named_in}
 use Rattle.glacier_vault.specs.Totals.{Vaults, Archives, vault_total}
 use Rattle.glacier_vault.specs.declared.archive.Finished.{Finished}
 use Rattle.glacier_vault.specs.declared.job.Job.{Job}
 use Rattle.glacier_vault.specs.declared.state.VaultState.{VaultState}
 use Rattle.glacier_vault.proofs.LengthLemmas.{length_within, length-changed_at}
+use Rattle.glacier_vault.proofs.NamingLemmas.{contains-named_in}
 use Rattle.glacier_job.specs.Pass.{settled, has_ended, is_past, jobs_after, held_after, finished_after, passed}
 use Rattle.glacier_job.proofs.PassTotals.{sum_by-parts}
 
@@ -67,21 +68,32 @@ module _ (n m : ℕ) where
   length-past finished = stay_in (λ _. finished_length n) (λ upload. is_past m upload.at) finished
 
 -- held archives that stay, and those that go
-pub length-unnamed : (n : ℕ) (jobs : map.FinMap nat_cmp Job) (held : Archives)
-    → sum_by (archive_length n) (map.values (where_entries (λ number _. is_named jobs number) held)) + sum_by (archive_length n) (each (λ e. e.1) (filter (λ e. not (is_named jobs e.0)) (map.entries held)))
+pub length-unnamed : (n : ℕ) (stays : ℕ → Bool) (held : Archives)
+    → sum_by (archive_length n) (map.values (where_entries (λ number _. stays number) held)) + sum_by (archive_length n) (each (λ e. e.1) (filter (λ e. not (stays e.0)) (map.entries held)))
     ≡ sum_by (archive_length n) (map.values held)
-length-unnamed n jobs held =
-    ap (λ es. sum_by (archive_length n) (values_of es) + sum_by (archive_length n) (each (λ e. e.1) (filter (λ e. not (is_named jobs e.0)) (map.entries held)))) (entries-where_entries nat_cmp_total held (λ number _. is_named jobs number))
-    ∙ sum_by-parts (archive_length n) (λ e. is_named jobs e.0) (map.entries held)
+length-unnamed n stays held =
+    ap (λ es. sum_by (archive_length n) (values_of es) + sum_by (archive_length n) (each (λ e. e.1) (filter (λ e. not (stays e.0)) (map.entries held)))) (entries-where_entries nat_cmp_total held (λ number _. stays number))
+    ∙ sum_by-parts (archive_length n) (λ e. stays e.0) (map.entries held)
 
 module _ (n m : ℕ) (vault : VaultState) (ready kept : map.FinMap nat_cmp Job) (settles : ready ≡ map_values (settled m vault.archives) vault.jobs) where
   -- the jobs that stay, and the held archives that they name, are those of the vault at the moment
   pub jobs_stay : sum_by (job_length n) (map.values (where_entries (λ _ job. not (has_ended m job)) ready)) ≡ sum_by (job_length n) (map.values (jobs_after m vault))
   jobs_stay = ap (λ jobs. sum_by (job_length n) (map.values (where_entries (λ _ job. not (has_ended m job)) jobs))) settles
 
-  pub held_stay : kept ≡ where_entries (λ _ job. not (has_ended m job)) ready
-      → sum_by (archive_length n) (map.values (where_entries (λ number _. is_named kept number) vault.held)) ≡ sum_by (archive_length n) (map.values (held_after m vault))
-  held_stay keeps = ap (λ jobs. sum_by (archive_length n) (map.values (where_entries (λ number _. is_named jobs number) vault.held))) (keeps ∙ ap (λ jobs. where_entries (λ _ job. not (has_ended m job)) jobs) settles)
+  module _ (keeps : kept ≡ where_entries (λ _ job. not (has_ended m job)) ready) (numbers : Names) (gathers : numbers ≡ named_in kept) where
+    kept_is : kept ≡ jobs_after m vault
+    kept_is = keeps ∙ ap (λ jobs. where_entries (λ _ job. not (has_ended m job)) jobs) settles
+
+    pub names_left : numbers ≡ named_in (jobs_after m vault)
+    names_left = gathers ∙ ap named_in kept_is
+
+    pub held_left : where_entries (λ number _. map.contains_key numbers number) vault.held ≡ held_after m vault
+    held_left =
+        ap (λ (found : Names). where_entries (λ number _. map.contains_key found number) vault.held) names_left
+        ∙ ap (λ (test : ℕ → Bool). where_entries (λ number _. test number) vault.held) (λ i number. contains-named_in (jobs_after m vault) number i)
+
+    pub held_stay : sum_by (archive_length n) (map.values (where_entries (λ number _. map.contains_key numbers number) vault.held)) ≡ sum_by (archive_length n) (map.values (held_after m vault))
+    held_stay = ap (λ held. sum_by (archive_length n) (map.values held)) held_left
 
 module _ (vaults : Vaults) (name : List ℕ) (vault : VaultState) (there : map.get vaults name ≡ Some vault) (n before : ℕ) (is : n ≡ length name) (all : before ≡ snapshot_length vaults) where
   pub length_there : vault_total (lengths n) vault ≤ before

@@ -1,49 +1,31 @@
 -- A job that waits, put into a vault: what is due then.
-use Rattle.std.specs.Prelude.{◌≡◌, ℕ, Bool, true, false, not, cond, ◌&&◌, List, Option, Some, None}
+use Rattle.std.specs.Prelude.{◌≡◌, ℕ, Bool, true, false, not, cond, ◌&&◌, ◌||◌, List, Option, Some, None}
 use Rattle.std.specs.Cmp.{nat_cmp_total}
 use Rattle.std.specs.FinMap as map
-use Rattle.std.specs.List.{list_any}
-use Rattle.std.specs.Ordering.{nat_cmp}
 use Rattle.std.proofs.Common.{◌∙◌, ap, sym, refl}
 use Rattle.glacier_base.specs.Maps.{changed_at}
-use Rattle.glacier_vault.specs.Due.{sooner, soonest, has_come, job_due, finished_due, lock_due, held_due, content_due, due_in}
+use Rattle.glacier_vault.specs.Due.{sooner, soonest, job_due, finished_due, lock_due, held_due, content_due, due_in}
 use Rattle.glacier_vault.specs.Named.{names, is_named, is_done, is_of}
 use Rattle.glacier_vault.specs.Totals.{Vaults}
 use Rattle.glacier_vault.specs.declared.job.Job.{Job}
 use Rattle.glacier_vault.specs.declared.job.Stage.TheVariants.{Waiting}
 use Rattle.glacier_vault.specs.declared.state.VaultState.{VaultState}
+use Rattle.glacier_vault.proofs.AnyLemmas.{any-insert}
 use Rattle.glacier_vault.proofs.DueLemmas.{due_in-sooner}
-use Rattle.glacier_vault.proofs.SoonerLemmas.{has_come-soonest, sooner-none, sooner-swap}
+use Rattle.glacier_vault.proofs.NamingLemmas.{or-false}
+use Rattle.glacier_vault.proofs.SoonerLemmas.{sooner-swap}
 use Rattle.glacier_vault.proofs.SoonestLemmas.{soonest-missing}
 use Rattle.glacier_job.specs.Beginning.{with_job}
 use Rattle.glacier_job.proofs.DueLemmas.{list_any-same}
-
-module _ {X : Type 0} (test : X → Bool) where
-  -- what passes a test is due at once
-  at_once : X → Option ℕ
-  at_once x = cond (test x) (Some 0) None
-
-  come : (b : Bool) → b ≡ has_come 0 (cond b (Some 0) None)
-  come true = refl
-  come false = refl
-
-  any-at_once : (xs : List X) → list_any test xs ≡ has_come 0 (soonest at_once xs)
-  unfolding at_once
-  any-at_once xs = list_any-same test (λ x. has_come 0 (at_once x)) (λ x. come (test x)) xs ∙ sym (has_come-soonest 0 at_once xs)
-
-  -- a new value that fails a test adds none that passes
-  any-missing : (m : map.FinMap nat_cmp X) (k : ℕ) (v : X) → map.get m k ≡ None → test v ≡ false → list_any test (map.values (map.insert m k v)) ≡ list_any test (map.values m)
-  unfolding at_once
-  any-missing m k v none fails =
-      any-at_once (map.values (map.insert m k v))
-      ∙ ap (has_come 0) (soonest-missing nat_cmp_total at_once m k v none ∙ ap (λ b. sooner (soonest at_once (map.values m)) (cond b (Some 0) None)) fails ∙ sooner-none (soonest at_once (map.values m)))
-      ∙ sym (any-at_once (map.values m))
 
 module _ (number : ℕ) (job : Job) (waits : job.stage ≡ Waiting) (vault : VaultState) where
   module _ (none : map.get vault.jobs number ≡ None) where
     -- a job that waits names nothing
     is_named-with_job : (n : ℕ) → is_named (map.insert vault.jobs number job) n ≡ is_named vault.jobs n
-    is_named-with_job n = any-missing (names n) vault.jobs number job none (ap (λ stage. is_done stage && is_of n job.work) waits)
+    is_named-with_job n =
+        any-insert nat_cmp_total (names n) vault.jobs number job none
+        ∙ ap (λ stage. is_named vault.jobs n || (is_done stage && is_of n job.work)) waits
+        ∙ or-false (is_named vault.jobs n)
 
     held_due-with_job : held_due (with_job number job vault) ≡ held_due vault
     held_due-with_job = ap (λ b. cond b (Some 0) None) (list_any-same (λ n. not (is_named (map.insert vault.jobs number job) n)) (λ n. not (is_named vault.jobs n)) (λ n. ap not (is_named-with_job n)) (map.keys vault.held))

@@ -6,7 +6,7 @@ use Rattle.std.specs.Ordering.{nat_cmp}
 use Rattle.glacier_base.specs.Maps.{map_values, where_entries}
 use Rattle.glacier_vault.specs.Due.{content_due}
 use Rattle.glacier_vault.specs.Named.{is_named, is_waiting, blobs_of}
-use Rattle.glacier_vault.specs.Rows.{with_vaults}
+use Rattle.glacier_vault.specs.Rows.{with_vaults, with_jobs}
 use Rattle.glacier_vault.specs.Totals.{Archives, blocks}
 use Rattle.glacier_vault.specs.declared.archive.Archive.{Archive}
 use Rattle.glacier_vault.specs.declared.archive.Finished.{Finished}
@@ -81,8 +81,7 @@ lock_after m (Some lock) = if lock_ends m lock then None else Some lock
 
 -- what the moment leaves in a vault
 abbrev pub left_in : ℕ → VaultState → VaultState
-left_in m vault = record vault {
-  jobs = jobs_after m vault;
+left_in m vault = record (with_jobs vault (jobs_after m vault)) {
   held = held_after m vault;
   finished = finished_after m vault.finished;
   lock = lock_after m vault.lock;

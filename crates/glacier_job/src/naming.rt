@@ -2,15 +2,14 @@
 // no list of jobs is walked for it.
 ghost use Rattle.std.specs.Prelude.{◌≡◌, ◌||◌, IfOk, OnOk, ℕ};
 ghost use Rattle.std.specs.FinMap as map;
-ghost use Rattle.glacier_vault.specs.Named.{names, is_named};
+ghost use Rattle.glacier_vault.specs.Named.{is_named, named_in};
 ghost use Rattle.glacier_job.specs.Naming.{archive_of, is_archive, names_at};
 ghost use Rattle.glacier_job.specs.Pass.{jobs_after};
 
 use crate::ending::is_day_past;
 use crate::outcomes::is_done_at;
-use crate::stages::is_done_stage;
 use glacier_base::{Memory, Moment, NumberMap};
-use glacier_vault::{Archive, Job, VaultState, Work};
+use glacier_vault::{Archive, Job, VaultState, Work, add_name};
 use std::alloc::Global;
 
 fn asked_archive(work: &Work) -> Option<u64>
@@ -19,17 +18,6 @@ fn asked_archive(work: &Work) -> Option<u64>
     match work {
         Work::Archive { archive, .. } => Some(*archive),
         Work::Inventory { .. } => None,
-    }
-}
-
-/// The archive that a job names, where it is done.
-pub(crate) fn archive_named(job: &Job) -> Option<u64>
-    ensures { (number : ℕ) → is_archive result number ≡ names number job.now }
-{
-    if is_done_stage(&job.stage) {
-        asked_archive(&job.work)
-    } else {
-        None
     }
 }
 
@@ -58,12 +46,11 @@ fn add(found: &mut NumberMap<()>, archive: Option<u64>) -> Result<(), Memory>
 
 /// The archives that the jobs which are done name.
 pub(crate) fn named_archives(alloc: Global, jobs: &NumberMap<Job>) -> Result<NumberMap<()>, Memory>
-    ensures { IfOk result (λ found. (number : ℕ) →
-        map.contains_key found number ≡ is_named jobs.now number) }
+    ensures { IfOk result (λ found. found ≡ named_in jobs.now) }
 {
     let mut found = NumberMap::new(alloc);
     for job in jobs.values() {
-        add(&mut found, archive_named(job))?;
+        add_name(&mut found, job)?;
     }
     Ok(found)
 }

@@ -5,7 +5,6 @@ ghost use Rattle.glacier_base.specs.Maps.{changed_at, map_values, where_entries}
 ghost use Rattle.glacier_vault.specs.Due.{due_in};
 ghost use Rattle.glacier_vault.specs.Lawful.{IsLawful};
 ghost use Rattle.glacier_vault.specs.Lengths.{lengths, archive_length, finished_length, job_length, snapshot_length};
-ghost use Rattle.glacier_vault.specs.Named.{is_named};
 ghost use Rattle.glacier_vault.specs.Totals.{vault_total};
 ghost use Rattle.glacier_job.specs.Pass.{settled, has_ended, finished_after, lock_after, left_in, passed, pass, pass_change};
 
@@ -82,25 +81,15 @@ fn drop_ended(m: Moment, jobs: &mut NumberMap<Job>, length: u64, n: u64) -> u64
     left
 }
 
-/// Takes the held archives out that no job names.
-fn drop_unnamed(
-    alloc: Global,
-    jobs: &NumberMap<Job>,
-    held: &mut NumberMap<Archive>,
-    length: u64,
-    n: u64,
-) -> Result<u64, Memory>
+/// Takes the held archives out that aren't among those named.
+fn drop_unnamed(named: &NumberMap<()>, held: &mut NumberMap<Archive>, length: u64, n: u64) -> u64
     requires { sum_by (archive_length n) (map.values held.old) ≤ length }
-    ensures held { OnOk result
-        (held.new ≡ where_entries (λ number _. is_named jobs.now number) held.old) }
-    ensures length { IfOk result (λ left. left + sum_by (archive_length n) (map.values held.old)
+    ensures held { held.new
+        ≡ where_entries (λ number _. map.contains_key named.now number) held.old }
+    ensures length { result + sum_by (archive_length n) (map.values held.old)
         ≡ length + sum_by (archive_length n)
-        (map.values (where_entries (λ number _. is_named jobs.now number) held.old))) }
+        (map.values (where_entries (λ number _. map.contains_key named.now number) held.old)) }
 {
-    if held.is_empty() {
-        return Ok(length);
-    }
-    let named = named_archives(alloc, jobs)?;
     let mut left = length;
     for (number, archive) in held.iter() {
         if !named.contains(*number) {
@@ -108,7 +97,7 @@ fn drop_unnamed(
         }
     }
     held.retain(|number, _| named.contains(*number));
-    Ok(left)
+    left
 }
 
 /// Takes the finished uploads out that have ended.
@@ -149,7 +138,8 @@ fn settle_content(
 {
     let left = settle_jobs(alloc, m, &vault.archives, &mut vault.jobs, length, n)?;
     let left = drop_ended(m, &mut vault.jobs, left, n);
-    let left = drop_unnamed(alloc, &vault.jobs, &mut vault.held, left, n)?;
+    vault.named = named_archives(alloc, &vault.jobs)?;
+    let left = drop_unnamed(&vault.named, &mut vault.held, left, n);
     let left = drop_past(m, &mut vault.finished, left, n);
     let left = length_without_ended_lock(left, n, m, &vault.lock);
     let lock = vault.lock.take();
