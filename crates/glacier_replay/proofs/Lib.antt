@@ -3,8 +3,11 @@ pub mod BlobMaps
 pub mod CompletedReplays
 pub mod CounterLemmas
 pub mod FitLemmas
+pub mod FreedLemmas
 pub mod FreesLemmas
+pub mod HeldBlobs
 pub mod HeldLemmas
+pub mod HeldStays
 pub mod KeepLemmas
 pub mod LockedStays
 pub mod MadeLemmas

@@ -18,7 +18,14 @@ ghost use Rattle.glacier_lock.specs.Locks.{abort_row, complete_row, initiate_row
 ghost use Rattle.glacier_job.specs.Beginning.{begin_row};
 ghost use Rattle.glacier_job.specs.Work.{HasOrderedRange};
 ghost use Rattle.glacier_job.specs.declared.asks.JobAsk.{JobAsk};
+ghost use Rattle.glacier_extents.specs.declared.run.Run.{Run};
+ghost use Rattle.glacier_replay.specs.Accounts.{Accounts, account_in};
+ghost use Rattle.glacier_replay.specs.Changes.{AccountEvent, State, after_account_event, change_in};
+ghost use Rattle.glacier_replay.specs.Freed.{FreesExactly};
+ghost use Rattle.glacier_replay.specs.Held.{HeldStays};
+ghost use Rattle.glacier_replay.specs.Made.{Holdings, after_event as held_after};
 ghost use Rattle.glacier_replay.specs.Replayed.{after_event, replays};
+ghost use Rattle.glacier_vault.specs.Freed.{FreesJust};
 ghost use Rattle.glacier_vault.specs.declared.archive.Archive.{Archive};
 ghost use Rattle.glacier_vault.specs.declared.event.Event.{Event};
 ghost use Rattle.glacier_vault.specs.declared.event.Event.TheVariants.{DeleteArchive};
@@ -111,4 +118,29 @@ pub fn archive_stays()
         → after_event account m event ≡ Some (after, freed)
         → live_archive account name number ≡ Some archive → event ≢ DeleteArchive name number
         → live_archive after name number ≡ Some archive }
+{}
+
+/// A held archive stays held, and its blobs keep their bytes and their runs, whatever event comes and of
+/// whatever account, as long as a finished job of its vault names it.
+pub fn held_stays()
+    ensures bytes { (state : State) (h : AccountEvent) → IsLawful (account_in state.accounts h.account)
+        → HeldStays state.accounts (after_account_event state h).accounts
+        state.bodies (after_account_event state h).bodies }
+    ensures runs { (held : Holdings) (account : List ℕ) (m : ℕ) (event : Event) (runs : List Run)
+        → IsLawful (account_in held.accounts account)
+        → HeldStays held.accounts (held_after held account m event runs).accounts
+        held.layouts (held_after held account m event runs).layouts }
+{}
+
+/// An event that fits frees just the blobs that its account named before it and doesn't name after it,
+/// each once.
+pub fn event_frees_just()
+    ensures just { (accounts : Accounts) (account : List ℕ) (m : ℕ) (event : Event) (after : AccountState)
+        (freed : List ℕ) → IsLawful (account_in accounts account)
+        → change_in accounts account m event ≡ Some (after, freed)
+        → FreesJust (account_in accounts account) after freed }
+    ensures exactly { (accounts : Accounts) (account : List ℕ) (m : ℕ) (event : Event) (after : AccountState)
+        (freed : List ℕ) → IsLawful (account_in accounts account)
+        → change_in accounts account m event ≡ Some (after, freed)
+        → FreesExactly (account_in accounts account) after freed }
 {}
