@@ -7,7 +7,7 @@ use Rattle.glacier_vault.specs.Lawful.{IsLawful}
 use Rattle.glacier_vault.specs.Totals.{times_named}
 use Rattle.glacier_vault.specs.declared.event.Event.{Event}
 use Rattle.glacier_vault.specs.declared.state.AccountState.{AccountState}
-use Rattle.glacier_replay.specs.Accounts.{Accounts, account_in}
+use Rattle.glacier_vault.specs.Accounts.{Accounts, account_in}
 use Rattle.glacier_replay.specs.Changes.{change_in}
 use Rattle.glacier_replay.specs.Freed.{FreesExactly}
 use Rattle.glacier_replay.proofs.CounterLemmas.{of_replayed}

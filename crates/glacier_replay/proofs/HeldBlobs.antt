@@ -14,7 +14,7 @@ use Rattle.glacier_vault.specs.Totals.{naming, times_named, vault_total}
 use Rattle.glacier_vault.specs.declared.archive.Archive.{Archive}
 use Rattle.glacier_vault.specs.declared.event.Event.{Event}
 use Rattle.glacier_vault.specs.declared.state.AccountState.{AccountState}
-use Rattle.glacier_replay.specs.Accounts.{Accounts, account_in}
+use Rattle.glacier_vault.specs.Accounts.{Accounts, account_in}
 use Rattle.glacier_replay.specs.Changes.{accounts_after, blobs_after, body_in, change_in, new_blob}
 use Rattle.glacier_replay.specs.Held.{AreKept, HeldStays, held_archive, job_names}
 use Rattle.glacier_replay.specs.Replayed.{Replay, after_event}

@@ -6,7 +6,7 @@ use Rattle.glacier_vault.specs.Freed.{times_in}
 use Rattle.glacier_vault.specs.Named.{is_named}
 use Rattle.glacier_vault.specs.declared.archive.Archive.{Archive}
 use Rattle.glacier_vault.specs.declared.state.AccountState.{AccountState}
-use Rattle.glacier_replay.specs.Accounts.{Accounts, account_in}
+use Rattle.glacier_vault.specs.Accounts.{Accounts, account_in}
 
 -- the archive that is held under a number in the vault of a name
 abbrev pub held_archive : AccountState → List ℕ → ℕ → Option Archive
