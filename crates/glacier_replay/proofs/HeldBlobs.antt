@@ -1,11 +1,10 @@
 -- The blobs of a held archive stay, of whatever account an event is.
-use Rattle.std.specs.Prelude.{◌≡◌, ℕ, ◌≤◌, Bool, true, false, cond, ◌&&◌, List, Some, None, is_some}
+use Rattle.std.specs.Prelude.{◌≡◌, ℕ, ◌≤◌, Bool, true, false, cond, ◌&&◌, List, Some, None}
 use Rattle.std.specs.Cmp.{nat_cmp_total}
 use Rattle.std.specs.Cmp.Lexicographic.{nat_list_cmp_total}
 use Rattle.std.specs.FinMap as map
-use Rattle.std.specs.List.{list_any}
-use Rattle.std.specs.Ordering.{nat_cmp, eq_by_cmp}
 use Rattle.std.proofs.Common.{◌∙◌, ap, sym, refl, subst, arith}
+use Rattle.std.proofs.Math.Bool.{and-false}
 use Rattle.glacier_base.proofs.Finite.{bytes_cmp-IsAntisymmetric}
 use Rattle.glacier_bodies.specs.Stands.{ByBlob, at_blob}
 use Rattle.glacier_vault.specs.Freed.{times_in}
@@ -15,22 +14,18 @@ use Rattle.glacier_vault.specs.declared.archive.Archive.{Archive}
 use Rattle.glacier_vault.specs.declared.event.Event.{Event}
 use Rattle.glacier_vault.specs.declared.state.AccountState.{AccountState}
 use Rattle.glacier_vault.specs.Accounts.{Accounts, account_in}
-use Rattle.glacier_replay.specs.Changes.{accounts_after, blobs_after, body_in, change_in, new_blob}
+use Rattle.glacier_replay.specs.Changes.{accounts_after, blobs_after, change_in, new_blob}
 use Rattle.glacier_replay.specs.Held.{AreKept, HeldStays, held_archive, job_names}
 use Rattle.glacier_replay.specs.Replayed.{Replay, after_event}
 use Rattle.glacier_replay.proofs.BlobMaps.{account_is, is_account, is_new, new_is}
 use Rattle.glacier_replay.proofs.CounterLemmas.{of_replayed}
 use Rattle.glacier_replay.proofs.FreesLemmas.{frees}
-use Rattle.glacier_replay.proofs.HeldLemmas.{is_there}
+use Rattle.glacier_replay.proofs.HeldLemmas.{elsewhere, is_there}
 use Rattle.glacier_replay.proofs.HeldStays as stays
 use Rattle.glacier_replay.proofs.NamedLemmas.{value_within}
 use Rattle.glacier_replay.proofs.Seen.{there}
 use Rattle.glacier_replay.proofs.SettledLemmas.{account_after}
 use Rattle.glacier_replay.proofs.ToldLemmas.{none_any}
-
-and_none : (b : Bool) → (b && false) ≡ false
-and_none true = refl
-and_none false = refl
 
 -- an account names the blobs of its held archives
 held_named : (a : AccountState) (name : List ℕ) (number : ℕ) (archive : Archive) → held_archive a name number ≡ Some archive → (blob : ℕ) → 1 ≤ times_in blob archive.blobs → 1 ≤ times_named blob a.vaults
@@ -56,7 +51,7 @@ module _ {X : Type 0} (accounts : Accounts) (blobs : ByBlob X) (account : List �
     -- a blob that is named before and after is neither new nor freed
     same : (blob : ℕ) → 1 ≤ times_named blob before.vaults → 1 ≤ times_named blob done.0.vaults → at_blob after account blob ≡ at_blob blobs account blob
     same blob was is = is_there account account blob blobs before.counter event x done false
-        (ap (λ b. is_account account account && b) (none_any blob done.1 (omega (arith, (frees before m lawful done event fits).just blob, (lawful.blobs blob).once, is))) ∙ and_none (is_account account account))
+        (ap (λ b. is_account account account && b) (none_any blob done.1 (omega (arith, (frees before m lawful done event fits).just blob, (lawful.blobs blob).once, is))) ∙ and-false (is_account account account))
         (old (is_new account before.counter event account blob) refl)
       where
         old : (b : Bool) → is_new account before.counter event account blob ≡ b → b ≡ false
@@ -64,11 +59,6 @@ module _ {X : Type 0} (accounts : Accounts) (blobs : ByBlob X) (account : List �
             let new = new_is account before.counter event account blob t in
             absurd (omega (arith, was, (lawful.blobs blob).drawn (omega (arith, new.2))))
         old false t = refl
-
-    elsewhere : (other : List ℕ) → is_account account other ≡ false → (blob : ℕ) → at_blob after other blob ≡ at_blob blobs other blob
-    elsewhere other apart blob = is_there account other blob blobs before.counter event x done false
-        (ap (λ b. b && list_any (eq_by_cmp nat_cmp blob) done.1) apart)
-        (ap (λ b. is_some (body_in event) && (b && eq_by_cmp nat_cmp blob before.counter)) apart ∙ and_none (is_some (body_in event)))
 
     here : (name : List ℕ) (number : ℕ) (archive : Archive) → held_archive before name number ≡ Some archive → job_names done.0 name number ≡ true
         → (held_archive done.0 name number ≡ Some archive) × AreKept blobs after account archive.blobs
@@ -83,7 +73,7 @@ module _ {X : Type 0} (accounts : Accounts) (blobs : ByBlob X) (account : List �
         let this : other ≡ account = account_is account other t in
         let kept = here name number archive (ap (λ k. held_archive (account_in accounts k) name number) (sym this) ∙ is_held) named in
         (kept.0, subst (λ (k : List ℕ). AreKept blobs after k archive.blobs) (sym this) kept.1)
-    each name number archive other is_held false t named = (is_held, λ blob among. elsewhere other t blob)
+    each name number archive other is_held false t named = (is_held, λ blob among. elsewhere account other blob blobs before.counter event x done t)
 
     of_fitting : HeldStays accounts (map.insert accounts account done.0) blobs after
     of_fitting other name number archive is_held =

@@ -1,7 +1,10 @@
 -- The runs and the bytes of blobs go along with each other, event after event.
-use Rattle.std.specs.Prelude.{◌≡◌, ◌⊎◌, ℕ, Bool, true, false, cond, ◌||◌, List, [], ◌∷◌, Option, Some, None, is_some, length}
+use Rattle.std.specs.Prelude.{◌≡◌, ◌⊎◌, ℕ, Bool, true, false, cond, ◌&&◌, ◌||◌, List, [], ◌∷◌, Option, Some, None, is_some, length}
 use Rattle.std.specs.FinMap as map
+use Rattle.std.specs.List.{list_any}
+use Rattle.std.specs.Ordering.{nat_cmp, eq_by_cmp}
 use Rattle.std.proofs.Common.{sym, ◌∙◌, ap, subst, refl, inl, inr}
+use Rattle.std.proofs.Math.Bool.{and-false}
 use Rattle.glacier_bodies.specs.BlobAreas.{without_blob}
 use Rattle.glacier_bodies.specs.Blobs.{Holds}
 use Rattle.glacier_bodies.specs.Stands.{ByBlob, Bodies, Layouts, AllHeld, at_blob}
@@ -22,6 +25,13 @@ is_there {X} account a n m counter event x done b kept new =
     at_after account a n m counter event x done
     ∙ ap (λ (c : Bool). cond c None (cond (is_new account counter event a n) (Some x) (at_blob m a n))) kept
     ∙ ap (λ (c : Bool). cond c (Some x) (at_blob m a n)) new
+
+-- of another account all stay
+pub elsewhere : {X : Type 0} (account other : List ℕ) (n : ℕ) (m : ByBlob X) (counter : ℕ) (event : Event) (x : X) (done : AccountState × List ℕ) → is_account account other ≡ false
+    → at_blob (blobs_after m account (new_blob counter event x) (Some done)) other n ≡ at_blob m other n
+elsewhere account other n m counter event x done apart = is_there account other n m counter event x done false
+    (ap (λ b. b && list_any (eq_by_cmp nat_cmp n) done.1) apart)
+    (ap (λ b. is_some (body_in event) && (b && eq_by_cmp nat_cmp n counter)) apart ∙ and-false (is_some (body_in event)))
 
 module _ {X Y : Type 0} where
   -- the same accounts have a map

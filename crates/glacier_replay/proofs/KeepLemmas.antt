@@ -7,6 +7,7 @@ use Rattle.std.specs.List.{list_any}
 use Rattle.std.specs.Ordering.{nat_cmp, eq_by_cmp}
 use Rattle.std.proofs.Common.{sym, ◌∙◌, ap, subst, refl, arith, inl, inr}
 use Rattle.std.proofs.lemmas.Bool.{eqb-true}
+use Rattle.std.proofs.Math.Bool.{and-false}
 use Rattle.glacier_bodies.specs.Stands.{Bodies, at_blob}
 use Rattle.glacier_treehash.specs.Leaves.{leaves_of}
 use Rattle.glacier_vault.specs.Freed.{times_in, FreesJust}
@@ -20,17 +21,14 @@ use Rattle.glacier_vault.specs.Accounts.{Accounts, account_in}
 use Rattle.glacier_replay.specs.Changes.{IsBodyOf, body_in, new_blob, with_new, change_in, blobs_after}
 use Rattle.glacier_replay.specs.Replayed.{after_event, can_draw, is_body}
 use Rattle.glacier_replay.specs.Standing.{IsTold, InAccount, Tells}
-use Rattle.glacier_replay.proofs.BlobMaps.{account_is, at_after, at_new, at_without_blobs, is_account, is_among, is_new, new_is, was_there}
+use Rattle.glacier_replay.proofs.BlobMaps.{account_is, at_new, at_without_blobs, is_account, is_among, is_new, new_is, was_there}
 use Rattle.glacier_replay.proofs.CounterLemmas.{of_fit, of_there, of_replayed}
 use Rattle.glacier_replay.proofs.FreesLemmas.{frees}
+use Rattle.glacier_replay.proofs.HeldLemmas.{elsewhere}
 use Rattle.glacier_replay.proofs.Seen.{both}
 use Rattle.glacier_replay.proofs.SettledLemmas.{account_after}
 use Rattle.glacier_replay.proofs.ToldLemmas.{any_none, none_any, told_alone, told_goes, told_same}
 use Rattle.glacier_replay.proofs.VaultBodies.{IsNew, told_after}
-
-and_none : (b : Bool) → (b && false) ≡ false
-and_none true = refl
-and_none false = refl
 
 module _ (accounts : Accounts) (bodies : Bodies) (account : List ℕ) (lawful : IsLawful (account_in accounts account)) (tells : Tells accounts bodies) (m : ℕ) (event : Event) (body : List ℕ)
     (body_is : IsBodyOf event body) (done : AccountState × List ℕ) (done_is : change_in accounts account m event ≡ Some done) where
@@ -67,14 +65,7 @@ module _ (accounts : Accounts) (bodies : Bodies) (account : List ℕ) (lawful : 
   stays n named =
       at_without_blobs account account n with_body done.1
       ∙ ap (λ b. cond (is_account account account && b) None (at_blob with_body account n)) (not_freed n named)
-      ∙ ap (λ b. cond b None (at_blob with_body account n)) (and_none (is_account account account))
-
-  -- of another account all stay
-  elsewhere : (other : List ℕ) → is_account account other ≡ false → (n : ℕ) → at_blob after other n ≡ at_blob bodies other n
-  elsewhere other apart n =
-      at_after account other n bodies before.counter event body done
-      ∙ ap (λ b. cond (b && list_any (eq_by_cmp nat_cmp n) done.1) None (cond (is_some (body_in event) && (b && eq_by_cmp nat_cmp n before.counter)) (Some body) (at_blob bodies other n))) apart
-      ∙ ap (λ b. cond b (Some body) (at_blob bodies other n)) (and_none (is_some (body_in event)))
+      ∙ ap (λ b. cond b None (at_blob with_body account n)) (and-false (is_account account account))
 
   new_here : is_some (body_in event) ≡ true → at_blob with_body account before.counter ≡ Some body
   new_here some =
@@ -100,7 +91,7 @@ module _ (accounts : Accounts) (bodies : Bodies) (account : List ℕ) (lawful : 
         (told_after (IsTold with_body account) before m told_before done event new fits)
 
     told_there : (other : List ℕ) → is_account account other ≡ false → InAccount (IsTold after other) (account_in accounts other)
-    told_there other apart = told_goes (account_in accounts other) (λ size leaves blobs named told. told_same bodies after other size leaves blobs (λ n among. sym (elsewhere other apart n)) told) (tells.told other)
+    told_there other apart = told_goes (account_in accounts other) (λ size leaves blobs named told. told_same bodies after other size leaves blobs (λ n among. sym (elsewhere account other n bodies before.counter event body done apart)) told) (tells.told other)
 
     told_each : (other : List ℕ) (b : Bool) → is_account account other ≡ b → InAccount (IsTold after other) (cond b done.0 (account_in accounts other))
     told_each other true t = subst (λ (k : List ℕ). InAccount (IsTold after k) done.0) (sym (account_is account other t)) told_here
@@ -120,7 +111,7 @@ module _ (accounts : Accounts) (bodies : Bodies) (account : List ℕ) (lawful : 
 
     named_each : (other : List ℕ) (n : ℕ) (bytes : List ℕ) → at_blob after other n ≡ Some bytes → (b : Bool) → is_account account other ≡ b → 1 ≤ times_named n (cond b done.0 (account_in accounts other)).vaults
     named_each other n bytes there true t = named_here n bytes (ap (λ k. at_blob after k n) (sym (account_is account other t)) ∙ there)
-    named_each other n bytes there false t = tells.no_other other n bytes (sym (elsewhere other t n) ∙ there)
+    named_each other n bytes there false t = tells.no_other other n bytes (sym (elsewhere account other n bodies before.counter event body done t) ∙ there)
 
     pub tells_after : Tells (map.insert accounts account done.0) after
     tells_after = record {
