@@ -11,7 +11,7 @@ use Rattle.glacier_machine.specs.ContentHash.{hash_name, named_hashes, need_refu
 use Rattle.glacier_replies.specs.Messages.{HasAsciiText}
 use Rattle.glacier_machine.specs.Requests.{account_refusal, token_refusal, version_refusal, first_of_two, fields_refusal, body_refusal, request_refusal, unless, action_of}
 use Rattle.glacier_machine.specs.Routes.{route_of}
-use Rattle.glacier_machine.specs.SignedRequests.{fault_refusal, signer_of, on_account, routed_request, verified_request, needed_request, request_with}
+use Rattle.glacier_machine.specs.SignedRequests.{fault_refusal, signer_of, RefusesInAscii, routed_asked, verified_request, needed_request, request_with}
 use Rattle.glacier_machine.specs.declared.config.Config.{Config}
 use Rattle.glacier_machine.specs.declared.content_hash.TheConstants.{MOST_BODY}
 use Rattle.glacier_machine.specs.declared.routes.Route.{Route}
@@ -163,12 +163,12 @@ request_ascii route signer head n body =
     (body_ascii head n body)
 
 routed_ascii : (step : RouteStep) (signer : List ℕ) (head : HeadText) (n : ℕ) (body : List ℕ)
-    → IfErr (routed_request step signer head n body) HasAsciiText
+    → IfErr (routed_asked step signer head n body) HasAsciiText
 routed_ascii (found.Route route) signer head n body =
     go (request_refusal route signer head n body) (request_ascii route signer head n body)
   where
     go : (refusal : Option Refusal) → IfSome refusal HasAsciiText
-        → IfErr (on_account signer (unless refusal (action_of route.op))) HasAsciiText
+        → IfErr (unless refusal (action_of route.op)) HasAsciiText
     go None ascii = tt
     go (Some refusal) ascii = ascii
 routed_ascii found.NoRoute signer head n body = tt
@@ -176,7 +176,7 @@ routed_ascii found.BadName signer head n body = tt
 
 -- a message is refused with ASCII texts
 pub refused_ascii : (config : Config) (head : HeadText) (n : ℕ) (body : List ℕ) (reading : ℕ) → HasNames head.fields
-    → IfErr (request_with config head n body reading) HasAsciiText
+    → RefusesInAscii (request_with config head n body reading)
 refused_ascii config head n body reading names =
     by_need (need_refusal (named_hashes head) n) (need_ascii (named_hashes head)) (signer_of config head body reading)
     (verdict_ascii config.region head names _ reading config.ring)
@@ -190,11 +190,11 @@ refused_ascii config head n body reading names =
     need_ascii (value ∷ more) = tt
 
     by_verdict : (verdict : Verdict) → IfErr verdict HasAsciiName
-        → IfErr (verified_request verdict head n body) HasAsciiText
+        → RefusesInAscii (verified_request verdict head n body)
     by_verdict (Ok signer) ascii = routed_ascii (route_of head) signer head n body
     by_verdict (Err fault) ascii = ascii
 
     by_need : (need : Option Refusal) → IfSome need HasAsciiText → (verdict : Verdict) → IfErr verdict HasAsciiName
-        → IfErr (needed_request need verdict head n body) HasAsciiText
+        → RefusesInAscii (needed_request need verdict head n body)
     by_need None x verdict y = by_verdict verdict y
     by_need (Some refusal) x verdict y = x

@@ -8,7 +8,7 @@ use Rattle.glacier_http.specs.View.{HeadText}
 use Rattle.glacier_machine.specs.ContentHash.{named_hashes, need_refusal, content_refusal}
 use Rattle.glacier_machine.specs.Requests.{first_of_two, fields_refusal, body_refusal, unless, action_of}
 use Rattle.glacier_machine.specs.Routes.{route_of}
-use Rattle.glacier_machine.specs.SignedRequests.{signer_of, on_account, routed_request, verified_request, needed_request, request_with, request_in, IsBodyKept}
+use Rattle.glacier_machine.specs.SignedRequests.{signer_of, routed_asked, verified_request, needed_request, request_with, request_in, IsBodyKept}
 use Rattle.glacier_machine.specs.declared.config.Config.{Config}
 use Rattle.glacier_machine.specs.declared.content_hash.TheConstants.{MOST_BODY}
 use Rattle.glacier_machine.specs.declared.routes.RouteStep.{RouteStep}
@@ -29,16 +29,17 @@ long_body head n kept whole long = refused kept ∙ sym (refused whole)
 -- by the route, the bytes of a body decide no more than whether it is refused
 same_routed : (step : RouteStep) (signer : List ℕ) (head : HeadText) (n : ℕ) (kept whole : List ℕ)
     → body_refusal head n kept ≡ body_refusal head n whole
-    → routed_request step signer head n kept ≡ routed_request step signer head n whole
+    → routed_asked step signer head n kept ≡ routed_asked step signer head n whole
 same_routed (found.Route route) signer head n kept whole same =
-    ap (λ r. on_account signer (unless (first_of_two (fields_refusal route signer head) r) (action_of route.op))) same
+    ap (λ r. unless (first_of_two (fields_refusal route signer head) r) (action_of route.op)) same
 same_routed found.NoRoute signer head n kept whole same = refl
 same_routed found.BadName signer head n kept whole same = refl
 
 same_verified : (verdict : Verdict) (head : HeadText) (n : ℕ) (kept whole : List ℕ)
     → body_refusal head n kept ≡ body_refusal head n whole
     → verified_request verdict head n kept ≡ verified_request verdict head n whole
-same_verified (Ok signer) head n kept whole same = same_routed (route_of head) signer head n kept whole same
+same_verified (Ok signer) head n kept whole same =
+    ap (λ asked. Ok (record { account = signer; asked = asked })) (same_routed (route_of head) signer head n kept whole same)
 same_verified (Err fault) head n kept whole same = refl
 
 -- the payload text is that of the body where none is named

@@ -47,6 +47,11 @@ step_of rules m (CreateVault name) before = by_row before (create_row before m n
 step_of rules m (DescribeVault name) before = by_look before (found before name) (described rules name)
 step_of rules m (DeleteVault name) before = by_row before (delete_row before m name) deleted
 
+-- the step of what is asked at the moment m: what is refused only gets its reply
+abbrev pub asked_step : Rules → ℕ → Result Action Refusal → AccountState → Step
+asked_step rules m (Ok action) before = step_of rules m action before
+asked_step rules m (Err refusal) before = only_replies before (refused refusal)
+
 -- an account after an event at the moment m; no request has another event than these three yet
 abbrev pub after_event : ℕ → AccountState → Event → AccountState
 after_event m account event.Pass = record account { last = m }

@@ -12,7 +12,7 @@ use Rattle.glacier_vault.specs.declared.state.AccountState.{AccountState}
 use Rattle.glacier_vault.specs.Accounts.{Accounts, account_in, AccountEvent}
 use Rattle.glacier_machine.specs.declared.action.Request.{Request}
 use Rattle.glacier_machine.specs.declared.config.Config.{Config}
-use Rattle.glacier_machine.specs.AccountSteps.{Step, step_of, after_event, pass_event, after_pass}
+use Rattle.glacier_machine.specs.AccountSteps.{Step, asked_step, after_event, pass_event, after_pass}
 use Rattle.glacier_replies.specs.Refusals.{head_refusal}
 use Rattle.glacier_replies.specs.Replies.{refused}
 use Rattle.glacier_machine.specs.SignedRequests.{request_in}
@@ -27,29 +27,34 @@ abbrev pub after_all : Accounts → List AccountEvent → Accounts
 after_all accounts [] = accounts
 after_all accounts (h ∷ more) = after_all (after_account_event accounts h) more
 
--- what a message brings about: the reply to it, and its events
+-- what a message brings about
 pub record Outcome : Type 0 where
   pub reply : Reply
-  pub events : List AccountEvent
+  -- the events of the time that passes for its account
+  pub passed : List AccountEvent
+  -- the events of what is asked for, behind them
+  pub done : List AccountEvent
 
--- the outcome of a refused message: it has no event
+-- all its events, in order
+abbrev pub outcome_events : Outcome → List AccountEvent
+outcome_events outcome = outcome.passed ++ outcome.done
+
+-- the outcome of a message that makes no request: it has no event
 abbrev pub refusal_outcome : Refusal → Outcome
-refusal_outcome refusal = record { reply = refused refusal; events = [] }
+refusal_outcome refusal = record { reply = refused refusal; passed = []; done = [] }
 
 -- the event of a change, if it has one
 abbrev pub events_of : List ℕ → ℕ → Option Event → List AccountEvent
 events_of account m None = []
 events_of account m (Some event) = record { account = account; moment = m; event = event; body = [] } ∷ []
 
--- the outcome of a step
-abbrev pub step_outcome : List ℕ → ℕ → Step → Outcome
-step_outcome account m step =
-    record { reply = step.answer.reply; events = events_of account m step.answer.change.event }
-
--- the same outcome behind the event of time that passes, if it has one
-abbrev pub behind_pass : List ℕ → ℕ → Option Event → Outcome → Outcome
-behind_pass account m passed outcome =
-    record { reply = outcome.reply; events = events_of account m passed ++ outcome.events }
+-- the outcome of a step behind the events of the time that passed
+abbrev pub step_outcome : List ℕ → ℕ → List AccountEvent → Step → Outcome
+step_outcome account m passed step = record {
+  reply = step.answer.reply;
+  passed = passed;
+  done = events_of account m step.answer.change.event;
+}
 
 -- the moment of a message: the clock's reading, or the account's last moment where that is later
 abbrev pub moment_of : AccountState → ℕ → ℕ
@@ -58,8 +63,8 @@ moment_of before reading = max before.last reading
 -- the outcome of a request at the moment m: time passes until then, and the step is on the account that this leaves
 abbrev pub outcome_at : Rules → ℕ → Request → AccountState → Outcome
 outcome_at rules m request before =
-    behind_pass request.account m (pass_event m before)
-    (step_outcome request.account m (step_of rules m request.action (after_pass m before)))
+    step_outcome request.account m (events_of request.account m (pass_event m before))
+    (asked_step rules m request.asked (after_pass m before))
 
 -- the outcome of a request where the account's state is this
 abbrev pub action_outcome : Rules → AccountState → Request → ℕ → Outcome
@@ -92,9 +97,9 @@ run config accounts [] readings = []
 run config accounts (message ∷ messages) [] = []
 run config accounts (message ∷ messages) (reading ∷ readings) =
     one config accounts message reading
-    ∷ run config (after_all accounts (one config accounts message reading).events) messages readings
+    ∷ run config (after_all accounts (outcome_events (one config accounts message reading))) messages readings
 
 -- the events of a run, in order
 abbrev pub events : List Outcome → List AccountEvent
 events [] = []
-events (outcome ∷ more) = outcome.events ++ events more
+events (outcome ∷ more) = outcome_events outcome ++ events more

@@ -1,5 +1,5 @@
 -- What a message with a good head asks for, by the head's text, its body and a reading of the clock.
-use Rattle.std.specs.Prelude.{◌≡◌, ℕ, ◌≤◌, List, length, Option, Some, None, Result, Ok, Err}
+use Rattle.std.specs.Prelude.{◌≡◌, ℕ, ◌≤◌, List, length, Option, Some, None, Result, Ok, Err, IfErr}
 use Rattle.glacier_http.specs.View.{HeadText}
 use Rattle.glacier_machine.specs.ContentHash.{named_hashes, need_refusal}
 use Rattle.glacier_machine.specs.Requests.{routed_action}
@@ -10,6 +10,7 @@ use Rattle.glacier_machine.specs.declared.config.Config.{Config}
 use Rattle.glacier_machine.specs.declared.content_hash.TheConstants.{MOST_BODY}
 use Rattle.glacier_machine.specs.declared.routes.RouteStep.{RouteStep}
 use Rattle.glacier_machine.specs.declared.routes.RouteStep.TheVariants as found
+use Rattle.glacier_replies.specs.Messages.{HasAsciiText}
 use Rattle.glacier_sigv4.specs.Payload.{payload_of}
 use Rattle.glacier_sigv4.specs.Verdict.{Verdict, verdict}
 use Rattle.glacier_sigv4.specs.declared.auth_fault.AuthFault.{AuthFault}
@@ -31,21 +32,20 @@ fault_refusal fault.BadSignature = refusal.BadSignature
 abbrev pub signer_of : Config → HeadText → List ℕ → ℕ → Verdict
 signer_of config head body reading = verdict config.ring config.region head (payload_of head.fields body) reading
 
--- an action on the account
-abbrev pub on_account : List ℕ → Result Action Refusal → Result Request Refusal
-on_account account (Ok action) = Ok (record { account = account; action = action })
-on_account account (Err refused) = Err refused
-
 -- what a signer's head asks for, by its route
-abbrev pub routed_request : RouteStep → List ℕ → HeadText → ℕ → List ℕ → Result Request Refusal
-routed_request (found.Route route) signer head length body =
-    on_account signer (routed_action route signer head length body)
-routed_request found.NoRoute signer head length body = Err refusal.NoRoute
-routed_request found.BadName signer head length body = Err refusal.BadName
+abbrev pub routed_asked : RouteStep → List ℕ → HeadText → ℕ → List ℕ → Result Action Refusal
+routed_asked (found.Route route) signer head length body = routed_action route signer head length body
+routed_asked found.NoRoute signer head length body = Err refusal.NoRoute
+routed_asked found.BadName signer head length body = Err refusal.BadName
 
--- the same by the verdict: nothing is asked for by a message that isn't verified
+-- what a verified head of this signer and its body ask for, or why that is refused
+abbrev pub asked_by : List ℕ → HeadText → ℕ → List ℕ → Result Action Refusal
+asked_by signer head length body = routed_asked (route_of head) signer head length body
+
+-- the request by the verdict: a message that isn't verified makes none, and one that is refused later makes one
 abbrev pub verified_request : Verdict → HeadText → ℕ → List ℕ → Result Request Refusal
-verified_request (Ok signer) head length body = routed_request (route_of head) signer head length body
+verified_request (Ok signer) head length body =
+    Ok (record { account = signer; asked = asked_by signer head length body })
 verified_request (Err fault) head length body = Err (fault_refusal fault)
 
 -- the same, where a hash is needed and isn't named
@@ -53,14 +53,19 @@ abbrev pub needed_request : Option Refusal → Verdict → HeadText → ℕ → 
 needed_request None verdict head length body = verified_request verdict head length body
 needed_request (Some refused) verdict head length body = Err refused
 
--- what a head asks for, behind which a body of this length stands
+-- the request that a head makes, behind which a body of this length stands
 abbrev pub request_with : Config → HeadText → ℕ → List ℕ → ℕ → Result Request Refusal
 request_with config head length body reading =
     needed_request (need_refusal (named_hashes head) length) (signer_of config head body reading) head length body
 
--- what a head with a body asks for
+-- the request that a head with a body makes
 abbrev pub request_in : Config → HeadText → List ℕ → ℕ → Result Request Refusal
 request_in config head body reading = request_with config head (length body) body reading
+
+-- where a request is refused, or a message isn't verified, the texts of the refusal are ASCII
+abbrev pub RefusesInAscii : Result Request Refusal → Type 0
+RefusesInAscii (Ok request) = IfErr request.asked HasAsciiText
+RefusesInAscii (Err refused) = HasAsciiText refused
 
 -- what is kept of a body: all of it, unless it is longer than a body may be
 abbrev pub IsBodyKept : List ℕ → List ℕ → Type 0

@@ -1,5 +1,5 @@
 // Laws of the definitions, which no code calls.
-ghost use Rattle.std.specs.Prelude.{◌≡◌, ◌↔◌, ◌≤◌, ℕ, List, Option, All, IsTrue, IfSome, Ok, Err};
+ghost use Rattle.std.specs.Prelude.{◌≡◌, ◌↔◌, ◌≤◌, ℕ, List, [], Option, All, IsTrue, IfSome, Ok, Err};
 ghost use Rattle.glacier_base.specs.Names.{is_vault_name};
 ghost use Rattle.glacier_http.specs.View.{HeadText};
 ghost use Rattle.glacier_http.specs.Messages.{Message};
@@ -20,12 +20,13 @@ ghost use Rattle.glacier_machine.specs.Asks.{job_asked};
 ghost use Rattle.glacier_machine.specs.ArchiveSteps.{upload_step, delete_archive_step};
 ghost use Rattle.glacier_machine.specs.JobSteps.{begin_job_step, job_output_step};
 ghost use Rattle.glacier_machine.specs.Outputs.{IsOutputOf};
-ghost use Rattle.glacier_machine.specs.Outcomes.{one};
-ghost use Rattle.glacier_vault.specs.Accounts.{Accounts};
+ghost use Rattle.glacier_machine.specs.Outcomes.{outcome_events, action_outcome, one};
 ghost use Rattle.glacier_machine.specs.Paths.{AsksFor};
+ghost use Rattle.glacier_vault.specs.Accounts.{Accounts};
 ghost use Rattle.glacier_machine.specs.Routes.{route_of};
 ghost use Rattle.glacier_machine.specs.Verified.{IsSignedBy};
 ghost use Rattle.glacier_machine.specs.declared.action.Action.{Action as RequestedAction};
+ghost use Rattle.glacier_machine.specs.declared.action.Request.{Request as RequestMade};
 ghost use Rattle.glacier_machine.specs.declared.config.Config.{Config as ServiceConfig};
 ghost use Rattle.glacier_machine.specs.declared.routes.Route.{Route as HeadRoute};
 ghost use Rattle.glacier_machine.specs.declared.routes.RouteStep.TheVariants as found;
@@ -37,7 +38,17 @@ ghost use Rattle.glacier_vault.specs.declared.state.AccountState.{AccountState a
 pub fn events_are_signed()
     ensures { (config : ServiceConfig) (accounts : Accounts) (message : Message) (reading : ℕ)
         → All (λ event. IsSignedBy config message reading event.account)
-        (one config accounts message reading).events }
+        (outcome_events (one config accounts message reading)) }
+{}
+
+/// A request that is refused lets time pass, and has no other event.
+pub fn refused_requests_only_pass()
+    ensures done { (rules : AccountRules) (before : Account) (request : RequestMade) (reading : ℕ)
+        (refusal : Refusal) → request.asked ≡ Err refusal
+        → (action_outcome rules before request reading).done ≡ [] }
+    ensures reply { (rules : AccountRules) (before : Account) (request : RequestMade) (reading : ℕ)
+        (refusal : Refusal) → request.asked ≡ Err refusal
+        → (action_outcome rules before request reading).reply ≡ refused refusal }
 {}
 
 /// The event of a step fits the account that the step was done on.

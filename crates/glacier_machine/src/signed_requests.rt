@@ -1,10 +1,9 @@
 // What a message with a good head asks for.
-ghost use Rattle.std.specs.Prelude.{◌≡◌, ℕ, List, length, IfOk, IfErr};
+ghost use Rattle.std.specs.Prelude.{◌≡◌, ℕ, List, length, IfOk};
 ghost use Rattle.glacier_http.specs.View.{HasNames};
-ghost use Rattle.glacier_replies.specs.Messages.{HasAsciiText};
-ghost use Rattle.glacier_machine.specs.SignedRequests.{fault_refusal as refusal_of_fault, signer_of, on_account, routed_request as request_of_route, verified_request as request_of_verdict, request_with as request_of_head, request_in, IsBodyKept};
+ghost use Rattle.glacier_machine.specs.SignedRequests.{fault_refusal as refusal_of_fault, signer_of, asked_by, verified_request as request_of_verdict, request_with as request_of_head, request_in, RefusesInAscii, IsBodyKept};
 
-use crate::action::Request;
+use crate::action::{Action, Request};
 use crate::config::Config;
 use crate::content_hash::{digest, need_refusal};
 use crate::requests::request_of;
@@ -49,7 +48,24 @@ fn signer(
 }
 
 /// What a signer's head asks for: NoRoute and BadName by `route`, and then as `request_of`.
-fn routed_request(
+fn asked_of(
+    alloc: Global,
+    signer: &Account,
+    head: &Head<'_>,
+    content_length: u64,
+    body: &[u8],
+) -> Result<Result<Action, Refusal>, Memory>
+    ensures { IfOk result (λ asked. asked ≡ asked_by signer.now head.now content_length body.now) }
+{
+    match route(head) {
+        RouteStep::Route(route) => request_of(alloc, &route, signer, head, content_length, body),
+        RouteStep::NoRoute => Ok(Err(Refusal::NoRoute)),
+        RouteStep::BadName => Ok(Err(Refusal::BadName)),
+    }
+}
+
+/// The request of a message that is verified as the signer's.
+fn verified_request(
     alloc: Global,
     signer: Account,
     head: &Head<'_>,
@@ -59,18 +75,11 @@ fn routed_request(
     ensures { IfOk result (λ request. request
         ≡ request_of_verdict (Ok signer) head.now content_length body.now) }
 {
-    let route = match route(head) {
-        RouteStep::Route(route) => route,
-        RouteStep::NoRoute => return Ok(Err(Refusal::NoRoute)),
-        RouteStep::BadName => return Ok(Err(Refusal::BadName)),
-    };
-    match request_of(alloc, &route, &signer, head, content_length, body)? {
-        Ok(action) => Ok(Ok(Request {
-            account: signer,
-            action,
-        })),
-        Err(refusal) => Ok(Err(refusal)),
-    }
+    let asked = asked_of(alloc, &signer, head, content_length, body)?;
+    Ok(Ok(Request {
+        account: signer,
+        asked,
+    }))
 }
 
 fn read(
@@ -88,16 +97,17 @@ fn read(
         return Ok(Err(refusal));
     }
     match signer(alloc, config, head, body, reading)? {
-        Ok(signer) => routed_request(alloc, signer, head, content_length, body),
+        Ok(signer) => verified_request(alloc, signer, head, content_length, body),
         Err(fault) => Ok(Err(fault_refusal(fault))),
     }
 }
 
-/// What a message asks for, or the first that holds of HashNeeded (its body has more than
-/// `MOST_BODY` bytes, and the head doesn't name its hash), the faults of `verify` at this reading,
-/// NoRoute and BadName by `route`, and the refusals of `request_of`. `body` is what is kept of the
-/// body: all of it, unless it has more than `MOST_BODY` bytes. What is asked for is asked of the
-/// signer's account.
+/// The request that a message makes of its signer's account, or the first that holds of HashNeeded
+/// (its body has more than `MOST_BODY` bytes, and the head doesn't name its hash) and the faults of
+/// `verify` at this reading: then it isn't verified. What a verified message asks for is an action, or
+/// is refused by the first that holds of NoRoute and BadName by `route`, and the refusals of
+/// `request_of`. `body` is what is kept of the body: all of it, unless it has more than `MOST_BODY`
+/// bytes.
 pub fn read_request(
     alloc: Global,
     config: &Config,
@@ -108,7 +118,7 @@ pub fn read_request(
 ) -> Result<Result<Request, Refusal>, Memory>
     ensures request { (whole : List ℕ) → length whole ≡ content_length → IsBodyKept body.now whole
         → IfOk result (λ request. request ≡ request_in config.now head.now whole reading) }
-    ensures ascii { IfOk result (λ request. IfErr request HasAsciiText) }
+    ensures ascii { IfOk result RefusesInAscii }
 {
     let _names = head.count();
     read(alloc, config, head, content_length, body, reading)

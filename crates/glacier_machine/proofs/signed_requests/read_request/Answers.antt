@@ -1,8 +1,7 @@
 use Rattle.std.proofs.Common.{◌∙◌}
 use Rattle.std.proofs.lemmas.Result.{IfOk-weaker}
-use Rattle.std.specs.Prelude.{IfErr}
 use Rattle.std.proofs.Common.{subst, sym}
-use Rattle.glacier_replies.specs.Messages.{HasAsciiText}
+use Rattle.glacier_machine.specs.SignedRequests.{RefusesInAscii}
 use Rattle.glacier_machine.proofs.RefusalLemmas.{refused_ascii}
 use Rattle.glacier_machine.proofs.RequestLemmas.{kept_is_enough}
 use Rattle.glacier_machine.proofs.signed_requests.read_request.Goals as goal
@@ -17,7 +16,7 @@ returns-clause-request c whole is kept =
 pub returns-clause-ascii : goal.returns-clause-ascii
 returns-clause-ascii c =
     IfOk-weaker c.read.result _ _
-    (λ r same. subst (λ s. IfErr s HasAsciiText) (sym same)
+    (λ r same. subst RefusesInAscii (sym same)
     (refused_ascii c.args.config.now c.args.head.now c.args.content_length c.args.body.now c.args.reading
     c.count-names.ensures.names))
     c.read.ensures
