@@ -66,7 +66,7 @@ module _ (old new : Told) (looks : Looks old new) where
 
     pub recovered : Recovers old new (Ok h)
     recovered = record {
-      reads = record { area = h.journal.area; payloads = payloads; end = h.journal.length; listed = listed; made = made };
+      reads = record { payloads = payloads; listed = listed; made = made };
       refuses = λ area at is. absurd (cc is);
       found = kept;
       not_refused = λ state stands. tt;

@@ -53,15 +53,11 @@ module _ (old new : Told) (journal : Journal) (layouts : Layouts) (runs : List R
       state_is = λ i now. (let from = images.crash i now in still_is from.0 i from.2 (held.state_is from.0 from.1));
     }
 
-  pub streamed : KeepsHeld old new journal layouts
+  pub streamed : KeepsHeld old new journal layouts runs
   streamed = record {
     held = still_held;
     remains = λ state held. weaker old new _ _ (images state held).moments (still_stands state held);
-    touches = record {
-      others = streams.own.reads.others;
-      crash = λ i now. (let from = streams.own.crash i now in (from.0, from.1, from.2.others));
-      moments = weaker old new _ _ streams.own.moments (λ i from. (from.0, from.1, from.2.others));
-    };
+    writes = streams.own;
   }
 
 -- an open body's blocks come from the free ones

@@ -1,5 +1,6 @@
 -- What a holding stands for: the state with the whole bytes of each blob, kept on a disk.
 use Rattle.std.specs.Prelude.{◌≡◌, ◌⊎◌, ℕ, ◌&&◌, not, List}
+use Rattle.std.specs.FinMap as map
 use Rattle.glacier_bodies.specs.Stands.{Layouts}
 use Rattle.glacier_disk.specs.declared.area.Area.{Area}
 use Rattle.glacier_disk.specs.declared.area.Area.TheVariants.{Blobs}
@@ -11,7 +12,6 @@ use Rattle.glacier_extents.specs.Runs.{has_block}
 use Rattle.glacier_journal.specs.Breaks.{Breaks}
 use Rattle.glacier_journal.specs.Listed.{Payloads, Listed, AllList}
 use Rattle.glacier_journal.specs.declared.journal.Journal.{Journal}
-use Rattle.glacier_vault.specs.Accounts.{Accounts}
 use Rattle.glacier_replay.specs.Changes.{State}
 use Rattle.glacier_replay.specs.Made.{BadRecord, IsRest, Makes}
 use Rattle.glacier_replay.specs.Standing.{IsStateOf, Stands}
@@ -37,13 +37,18 @@ pub record IsKept (disk : Told) (holding : Holding) (state : State) : Type 0 whe
   pub held : IsHeldBy disk holding.journal holding.area.blobs state
   pub rest : IsRest holding.area.free holding.area.blobs
 
--- what opening finds: the image lists payloads that make these accounts and these runs of each blob
-pub record ReadsAs (image : Image) (accounts : Accounts) (layouts : Layouts) : Type 0 where
-  pub area : Area
+-- what opening finds: the image lists payloads where the journal says, and they make the accounts and the runs of each blob
+pub record ReadsAs (image : Image) (holding : Holding) : Type 0 where
   pub payloads : Payloads
-  pub end : ℕ
-  pub listed : Listed image area payloads end
-  pub made : Makes payloads accounts layouts
+  pub listed : Listed image holding.journal.area payloads holding.journal.length
+  pub made : Makes payloads holding.accounts holding.area.blobs
+
+-- a new holding: it has no account and no blob, all blocks are free, and the journal ends behind its first gate
+pub record HoldsNothing (holding : Holding) : Type 0 where
+  pub accounts : holding.accounts ≡ map.empty
+  pub blobs : holding.area.blobs ≡ map.empty
+  pub rest : IsRest holding.area.free holding.area.blobs
+  pub length : holding.journal.length ≡ 17
 
 -- the image lists payloads, and at this place the first that spells no record, or one that doesn't fit
 pub record ListsBadRecord (image : Image) (area : Area) (at : ℕ) : Type 0 where

@@ -1,14 +1,19 @@
 -- What each call of a holding makes of the disk, and why it fails.
-use Rattle.std.specs.Prelude.{◌≡◌, ◌⊎◌, ℕ, ◌+◌, ◌<◌, ◌≤◌, ◌^◌, List, Some, None, Result, IfOk, OnOk, IfErr, IsErrOf, length}
+use Rattle.std.specs.Prelude.{◌≡◌, ◌⊎◌, ℕ, ◌+◌, ◌<◌, ◌≤◌, ◌^◌, List, [], Some, None, Result, IfOk, OnOk, IfErr, IsErrOf, length}
 use Rattle.std.specs.FinMap as map
-use Rattle.glacier_bodies.specs.BlobAreas.{AreaState}
+use Rattle.glacier_bodies.specs.BlobAreas.{AreaState, IsOpen}
+use Rattle.glacier_bodies.specs.Blobs.{IsApart}
+use Rattle.glacier_bodies.specs.Bodies.{HasTaken, body_runs}
+use Rattle.glacier_bodies.specs.declared.body.Body.{Body}
 use Rattle.glacier_bodies.specs.Stands.{Layouts}
 use Rattle.glacier_disk.specs.declared.area.Area.{Area}
-use Rattle.glacier_disk.specs.declared.area.Area.TheVariants.{Blobs}
 use Rattle.glacier_disk.specs.Moments.{Looks}
 use Rattle.glacier_disk.specs.Told.{Told}
 use Rattle.glacier_disk.specs.Touches.{Touches}
 use Rattle.glacier_extents.specs.declared.run.Run.{Run}
+use Rattle.glacier_extents.specs.FreeRuns.{Claims}
+use Rattle.glacier_extents.specs.Places.{WritesBlocks}
+use Rattle.glacier_extents.specs.Runs.{block_count, has_block}
 use Rattle.glacier_journal.specs.Breaks.{areas, first_full}
 use Rattle.glacier_journal.specs.Listed.{IsNew}
 use Rattle.glacier_journal.specs.declared.journal.Journal.{Journal}
@@ -37,11 +42,10 @@ pub record Founds (old new : Told) (result : Result Holding StoreFault) : Type 0
   pub not_empty : (area : Area) (size : ℕ) → IsErrOf result (fault.NotEmpty area size)
       → first_full old.reads areas ≡ Some (area, size)
   pub untouched : (first_full old.reads areas ≡ None → ⊥) → Looks old new
-  pub length : IfOk result (λ holding. holding.journal.length ≡ 17)
 
 -- the holding is opened that the disk reads as, or its first place is told that keeps it from it
 pub record Recovers (old new : Told) (result : Result Holding StoreFault) : Type 0 where
-  pub reads : IfOk result (λ holding. ReadsAs old.reads holding.accounts holding.area.blobs)
+  pub reads : IfOk result (λ holding. ReadsAs old.reads holding)
   pub refuses : (area : Area) (at : ℕ) → IsErrOf result (fault.NotAJournal area at) → Refuses old.reads area at
   -- where the disk stands for a state, it is opened as that state, or not for want of memory or by a fault of it
   pub found : (state : State) → Stands old.reads state → IfOk result (λ holding. IsKept new holding state)
@@ -88,8 +92,16 @@ pub record OnlyFree (old new : Holding) : Type 0 where
   pub journal : new.journal ≡ old.journal
   pub blobs : new.area.blobs ≡ old.area.blobs
 
--- whatever state was held is held, and stood at each moment since; nothing but Blobs is written
-pub record KeepsHeld (old new : Told) (journal : Journal) (layouts : Layouts) : Type 0 where
+-- a body was opened in so many free blocks, the lowest, of which there were enough; other open bodies stay open beside it
+pub record HasBegun (old new : AreaState) (count : ℕ) (body : Body) : Type 0 where
+  pub enough : count ≤ block_count old.free
+  pub lowest : Claims count old.free new.free (body_runs body)
+  pub open : IsOpen new (body_runs body)
+  pub empty : HasTaken body []
+  pub others : (runs : List Run) → IsOpen old runs → IsOpen new runs × IsApart (has_block (body_runs body)) runs
+
+-- whatever state was held is held, and stood at each moment since; nothing is written but these blocks of Blobs
+pub record KeepsHeld (old new : Told) (journal : Journal) (layouts : Layouts) (own : List Run) : Type 0 where
   pub held : (state : State) → IsHeldBy old journal layouts state → IsHeldBy new journal layouts state
   pub remains : (state : State) → IsHeldBy old journal layouts state → Remains old new state
-  pub touches : Touches Blobs old new
+  pub writes : WritesBlocks (has_block own) old new

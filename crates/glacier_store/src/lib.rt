@@ -2,6 +2,8 @@
 #![tactic(auto)]
 
 mod accounts;
+mod applying;
+mod changed;
 mod changing;
 mod committing;
 mod fault;
@@ -10,6 +12,7 @@ pub mod holding_laws;
 mod keeping;
 pub mod laws;
 mod opening;
+mod passing;
 mod replaying;
 mod store;
 mod streaming;

@@ -1,9 +1,9 @@
 // A holding that is made, or read from a disk.
 ghost use Rattle.std.specs.Prelude.{◌≡◌, ◌⊎◌, ℕ, true, IsTrue, IfOk, IfErr};
-ghost use Rattle.std.specs.FinMap as map;
 ghost use Rattle.glacier_disk.specs.declared.area.Area.{Area};
 ghost use Rattle.glacier_replay.specs.Made.{IsRest};
 ghost use Rattle.glacier_store.specs.Calls.{StoreCall};
+ghost use Rattle.glacier_store.specs.Held.{HoldsNothing};
 ghost use Rattle.glacier_store.specs.HoldingCalls.{Founds, Recovers};
 
 use crate::{Holding, StoreFault};
@@ -21,7 +21,7 @@ impl Holding {
     pub fn create<D: Disk>(alloc: Global, disk: &mut D) -> Result<Holding, StoreFault>
         requires { (D.told disk.old).opened ≡ true }
 
-        ensures accounts { IfOk result (λ holding. holding.accounts ≡ map.empty) }
+        ensures nothing { IfOk result HoldsNothing }
         ensures founds { IsTrue D.tells →
             Founds (D.told disk.old) (D.told disk.new) result }
 

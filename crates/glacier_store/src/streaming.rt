@@ -8,12 +8,11 @@ ghost use Rattle.glacier_bodies.specs.Calls.{BlobCall};
 ghost use Rattle.glacier_disk.specs.Calls.{Rests};
 ghost use Rattle.glacier_disk.specs.declared.area.Area.TheVariants.{Blobs};
 ghost use Rattle.glacier_extents.specs.Runs.{block_count};
-ghost use Rattle.glacier_extents.specs.FreeRuns.{Claims};
 ghost use Rattle.glacier_replay.specs.Changes.{State};
 ghost use Rattle.glacier_replay.specs.Made.{IsRest};
 ghost use Rattle.glacier_replay.specs.Standing.{IsTold};
 ghost use Rattle.glacier_store.specs.Held.{IsHeldBy, IsRestBeside};
-ghost use Rattle.glacier_store.specs.HoldingCalls.{KeepsHeld, OnlyFree};
+ghost use Rattle.glacier_store.specs.HoldingCalls.{HasBegun, KeepsHeld, OnlyFree};
 
 use crate::Holding;
 use glacier_base::{Account, Failed, Memory};
@@ -26,23 +25,26 @@ use std::thread::Threads;
 
 impl Holding {
     /// Opens a body of so many bytes, in the lowest free blocks. No later call of the body takes
-    /// memory before it is kept. After an `Err`, which is want of memory, nothing has changed.
+    /// memory before it is kept. After an `Err` nothing has changed: fewer blocks are free than the
+    /// body needs, or memory is wanting.
     pub fn begin_body(&mut self, alloc: Global, length: u64) -> Result<Body, Memory>
-        requires { div_ceil length BLOCK ≤ block_count self.old.area.free }
-        ensures opened { IfOk result (λ body. IsOpen self.new.area (body_runs body)) }
-        ensures empty { IfOk result (λ body. HasTaken body []) }
-        ensures lowest { IfOk result (λ body. Claims (div_ceil length BLOCK)
-            self.old.area.free self.new.area.free (body_runs body)) }
+        ensures begun { IfOk result
+            (HasBegun self.old.area self.new.area (div_ceil length BLOCK)) }
         ensures beside { IfOk result (λ body. IsRest self.old.area.free self.old.area.blobs →
             IsRestBeside (body_runs body) self.new.area.free self.new.area.blobs) }
         ensures same { OnlyFree self.old self.new }
         ensures err { OnErr result (self.new.area ≡ self.old.area) }
     {
+        let free = self.area.free();
+        if u64::from(free) < length.div_ceil(BLOCK) {
+            return Err(Memory);
+        }
         self.area.begin_body(alloc, length)
     }
 
     /// Takes the next piece of an open body behind whole blocks: hashes it and writes it to the
-    /// body's own blocks. Whatever state is held stays held, at each moment. It takes no memory.
+    /// body's own blocks, and to no other. Whatever state is held stays held, at each moment. It takes
+    /// no memory.
     pub fn body_piece<D: Disk, R: Threads + Sync, G: Gate + Sync>(
         &self,
         rt: &R,
@@ -65,7 +67,7 @@ impl Holding {
             (Holds (body_runs body.old) (message ++ bytes.now) ((D.told disk.new).reads Blobs)) }
 
         ensures keeps { IsTrue D.tells → KeepsHeld (D.told disk.old) (D.told disk.new)
-            self.now.journal self.now.area.blobs }
+            self.now.journal self.now.area.blobs (body_runs body.old) }
         ensures alone { D.by_disk disk.old disk.new }
         ensures call { BlobCall (D.told disk.old) (D.told disk.new) result }
     {

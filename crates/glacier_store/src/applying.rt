@@ -1,0 +1,64 @@
+// What is asked of an account of a holding.
+ghost use Rattle.std.specs.Prelude.{◌≡◌, ◌≤◌, true, IsTrue, IfOk};
+ghost use Rattle.glacier_machine.specs.AccountSteps.{step_of};
+ghost use Rattle.glacier_vault.specs.Accounts.{account_in};
+ghost use Rattle.glacier_store.specs.Calls.{StoreCall};
+ghost use Rattle.glacier_store.specs.HoldingSteps.{Advances, GrowsBy, accounts_after, action_events, holding_left, room_of};
+
+use crate::changed::{acted, keep_change};
+use crate::{Holding, StoreFault};
+use glacier_base::Moment;
+use glacier_disk::Disk;
+use glacier_machine::{Action, Answer};
+use glacier_vault::Rules;
+use std::alloc::Global;
+
+impl Holding {
+    /// Does an action that has no body on an account at the moment `m`, and keeps what it changes.
+    ///
+    /// After an error there is no holding: `Disk` says that a call of the disk failed, `Memory` is
+    /// want of memory, and `End` that the journal is as long as it can be.
+    pub fn apply<D: Disk>(
+        self,
+        alloc: Global,
+        disk: &mut D,
+        rules: &Rules,
+        m: Moment,
+        action: &Action,
+    ) -> Result<(Holding, Answer), StoreFault>
+        requires open { (D.told disk.old).opened ≡ true }
+        requires time { (account_in self.accounts rules.now.account).last ≤ m }
+
+        ensures answer { IfOk result (λ done. done.1 ≡
+            (step_of rules.now m action.now (account_in self.accounts rules.now.account)).answer) }
+        ensures accounts { IfOk result (λ done. done.0.accounts ≡
+            accounts_after self.accounts (action_events rules.now m action.now self.accounts)) }
+
+        ensures advances { IsTrue D.tells → Advances (D.told disk.old) (D.told disk.new) self
+            (action_events rules.now m action.now self.accounts) (holding_left result) }
+        ensures grows { GrowsBy self.journal
+            (room_of (action_events rules.now m action.now self.accounts)) (holding_left result) }
+        ensures call { StoreCall (D.told disk.old) (D.told disk.new) result }
+        ensures alone { D.by_disk disk.old disk.new }
+    {
+        let Holding {
+            mut accounts,
+            area,
+            journal,
+        } = self;
+        let answer = acted(&mut accounts, alloc, rules, m, action)?;
+        let holding = keep_change(
+            Holding {
+                accounts,
+                area,
+                journal,
+            },
+            alloc,
+            disk,
+            &rules.account,
+            m,
+            &answer.change,
+        )?;
+        Ok((holding, answer))
+    }
+}

@@ -1,0 +1,77 @@
+// Time that passes for an account of a holding.
+ghost use Rattle.std.specs.Prelude.{◌≡◌, ◌≤◌, true, IsTrue, IfOk, OnErr};
+ghost use Rattle.glacier_job.specs.Pass.{pass_is_event};
+ghost use Rattle.glacier_vault.specs.Accounts.{account_in};
+ghost use Rattle.glacier_store.specs.Calls.{StoreCall};
+ghost use Rattle.glacier_store.specs.HoldingSteps.{Advances, GrowsBy, HasPassed, room_of, time_events};
+
+use crate::changed::{aged, keep_change};
+use crate::{Holding, StoreFault};
+use glacier_base::{Account, Moment};
+use glacier_disk::Disk;
+use glacier_job::is_due;
+use glacier_replay::Accounts;
+use std::alloc::Global;
+
+/// Whether the moment `m` settles or ends something in an account.
+fn is_due_in(accounts: &Accounts, account: &Account, m: Moment) -> bool
+    ensures { result ≡ pass_is_event m (account_in accounts.now account.now) }
+{
+    match accounts.get(account) {
+        Some(state) => is_due(state, m),
+        None => false,
+    }
+}
+
+impl Holding {
+    /// Lets time pass for an account until the moment `m`, before what is asked for at `m` is done:
+    /// ready jobs are settled, and what has ended goes. That is an event, which is kept. Where there
+    /// is nothing of these, nothing is written, and no memory is taken.
+    ///
+    /// After an error there is no holding: `Disk` says that a call of the disk failed, `Memory` is
+    /// want of memory, and `End` that the journal is as long as it can be.
+    pub fn pass<D: Disk>(
+        self,
+        alloc: Global,
+        disk: &mut D,
+        account: &Account,
+        m: Moment,
+    ) -> Result<Holding, StoreFault>
+        requires open { (D.told disk.old).opened ≡ true }
+        requires time { (account_in self.accounts account.now).last ≤ m }
+
+        ensures passed { IfOk result (λ done.
+            HasPassed self.accounts done.accounts account.now m) }
+        ensures due { OnErr result
+            (pass_is_event m (account_in self.accounts account.now) ≡ true) }
+
+        ensures advances { IsTrue D.tells → Advances (D.told disk.old) (D.told disk.new) self
+            (time_events account.now m self.accounts) result }
+        ensures grows { GrowsBy self.journal
+            (room_of (time_events account.now m self.accounts)) result }
+        ensures call { StoreCall (D.told disk.old) (D.told disk.new) result }
+        ensures alone { D.by_disk disk.old disk.new }
+    {
+        if !is_due_in(&self.accounts, account, m) {
+            return Ok(self);
+        }
+        let Holding {
+            mut accounts,
+            area,
+            journal,
+        } = self;
+        let change = aged(&mut accounts, alloc, account, m)?;
+        keep_change(
+            Holding {
+                accounts,
+                area,
+                journal,
+            },
+            alloc,
+            disk,
+            account,
+            m,
+            &change,
+        )
+    }
+}
