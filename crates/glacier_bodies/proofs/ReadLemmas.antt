@@ -2,6 +2,8 @@
 use Rattle.std.proofs.Common.{◌≡◌, ℕ, suc, ◌+◌, ◌-◌, ◌*◌, ◌/◌, ◌%◌, ◌<◌, ◌≤◌, min, get_or, List, [], ◌∷◌, ◌++◌, length, take, drop, replicate, refl, sym, ◌∙◌, ap, ap₂, subst, inl, inr, arith}
 use Rattle.std.proofs.lemmas.Bool.Decides.{leb_tells}
 use Rattle.std.proofs.lemmas.List.{take_at, drop_at, take-append-le, length-take-le, take-take, drop-take, drop-drop, length-take, length-drop, length-append, append-nil, drop_more}
+use Rattle.std.proofs.Math.Seq.{take-length}
+use Rattle.std.proofs.Math.ListN.{drop_of_length-le}
 use borrow.Rule.Slice.PartMut.{put_mid}
 use Rattle.std.proofs.lemmas.Slice.{take-put_mid}
 use Rattle.glacier_treehash.proofs.LeavesLemmas.{take_further}
@@ -185,3 +187,18 @@ pub blob_runs : (blobs : Layouts) (account numbers : List ℕ) (i : ℕ) (runs :
 blob_runs blobs account numbers i runs inside there =
     runs_step blobs account numbers i (get_or numbers i 0) inside refl
     ∙ ap (λ r. unwrap_or r [] ++ runs_of blobs account (drop (i + 1) numbers)) (sym there)
+
+-- no blobs are left: all that was asked for was read
+pub read_all : (blobs : Layouts) (account numbers : List ℕ) (at skip done : ℕ) (into bytes content : List ℕ) (i : ℕ)
+    → length numbers ≤ i → done ≤ length into → at + length into ≤ length bytes
+    → IsAt at skip done into (runs_of blobs account (drop i numbers)) bytes content
+    → into ≡ take (length into) (drop at bytes)
+read_all blobs account numbers at skip done into bytes content i past room within is =
+    let none : drop i numbers ≡ [] = drop_of_length-le numbers past in
+    let all : done ≡ length into = elim (leb_tells (suc done) (length into)) [
+      | inl less ↦ (let next = is.next less.1 in
+          let left : drop next.0 bytes ≡ [] = subst (λ (ns : List ℕ). Holds (runs_of blobs account ns) (drop next.0 bytes) content) none next.2 in
+          absurd (omega (arith, less.1, next.1, within, ap length left, length-drop next.0 bytes)))
+      | inr same ↦ omega (arith, same.1, room)
+    ] in
+    sym (take-length into) ∙ ap (λ n. take n into) (sym all) ∙ is.front ∙ ap (λ n. take n (drop at bytes)) all

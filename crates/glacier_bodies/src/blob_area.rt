@@ -198,8 +198,6 @@ impl BlobArea {
         into: &mut [u8],
     ) -> Result<(), Failed>
         requires open { (D.told disk.old).opened ≡ true }
-        requires room { at + length into.old ≤
-            block_count (runs_of self.now.blobs account.now blobs.now) * BLOCK }
         ensures bytes { IsTrue D.tells → (bytes : Items ℕ) →
             Holds (runs_of self.now.blobs account.now blobs.now) bytes
             ((D.told disk.old).reads Blobs) → at + length into.old ≤ length bytes →

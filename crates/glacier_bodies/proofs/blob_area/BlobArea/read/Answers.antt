@@ -1,4 +1,4 @@
-use Rattle.std.proofs.Common.{◌≡◌, ◌+◌, ◌-◌, ◌*◌, ◌<◌, ◌≤◌, min, ℕ, List, ◌++◌, length, take, drop, refl, sym, ◌∙◌, ap, subst, arith}
+use Rattle.std.proofs.Common.{◌≡◌, ◌+◌, ◌-◌, ◌*◌, ◌<◌, ◌≤◌, min, ℕ, List, length, take, drop, refl, sym, ◌∙◌, ap, subst, arith}
 use borrow.Rule.Slice.PartMut.{put_mid}
 use Rattle.std.proofs.lemmas.List.{length-take, length-drop}
 use Rattle.glacier_disk.specs.declared.area.Area.TheVariants.{Blobs}
@@ -6,11 +6,10 @@ use Rattle.glacier_disk.specs.Image.{Image}
 use Rattle.glacier_extents.specs.declared.run.Run.{Run}
 use Rattle.glacier_extents.specs.Places.{block_size}
 use Rattle.glacier_extents.specs.Runs.{block_count}
-use Rattle.glacier_extents.proofs.RunLemmas.{block_count-append}
 use Rattle.glacier_bodies.specs.BlobAreas.{runs_of}
 use Rattle.glacier_bodies.specs.Blobs.{Holds}
 use Rattle.glacier_bodies.proofs.CallLemmas.{none_failed}
-use Rattle.glacier_bodies.proofs.ReadLemmas.{IsAt, rests_on, length-put_mid, front_on, blob_runs}
+use Rattle.glacier_bodies.proofs.ReadLemmas.{IsAt, rests_on, length-put_mid, front_on, read_all, blob_runs}
 use Rattle.glacier_bodies.proofs.blob_area.BlobArea.read.Goals as goal
 
 pub loop-number-preserved : goal.loop-number-preserved
@@ -24,7 +23,6 @@ loop-number-preserved g c =
     let layout = c.in-Some.layout.now in
     let rest = runs_of c.args.self.now.blobs c.args.account.now (drop (i + 1) c.args.blobs.now) in
     let step = blob_runs c.args.self.now.blobs c.args.account.now c.args.blobs.now i layout c.loop-number-test.true c.in-Some.ensures in
-    let count = ap block_count step ∙ block_count-append layout rest in
     let skip = c.loop-number.skip in
     let n = c.in_ok-done.field-0 in
     let k = length into - done in
@@ -42,7 +40,6 @@ loop-number-preserved g c =
       alone = g.met.D.Disk.by_disk_joins c.args.disk.now c.loop-number.disk c.read_front.new.disk so_far.alone c.read_front.ensures.alone;
       faults = c.in_ok-done.ensures.call.cause.ok ∙ so_far.faults;
       rests = rests_on old mid (g.D.Disk.told c.read_front.new.disk) so_far.rests c.read_front.ensures.rests;
-      room = λ more. omega (arith, whole, more, small, left, count, so_far.room less);
       bytes = λ t bytes held within. (
           let same : mid.reads Blobs ≡ old.reads Blobs = ap (λ (image : Image). image Blobs) so_far.rests.same in
           let long : c.args.at + length into ≤ length bytes = omega (arith, whole, within) in
@@ -57,3 +54,13 @@ returns-after-loop-number-clause-call g c = none_failed (g.D.Disk.told c.args.di
 
 pub returns-then-done-into-clause-call : goal.returns-then-done-into-clause-call
 returns-then-done-into-clause-call g c = none_failed (g.D.Disk.told c.args.disk.now) (g.D.Disk.told c.loop-number.disk) c.loop-number.invariant.opened c.loop-number.invariant.faults
+
+pub returns-after-loop-number-clause-bytes : goal.returns-after-loop-number-clause-bytes
+returns-after-loop-number-clause-bytes g c t bytes held within =
+    let so_far = c.loop-number.invariant in
+    let same = c.loop-number.auto.into in
+    let long : c.args.at + length c.loop-number.into ≤ length bytes = omega (arith, same, within) in
+    let is = so_far.bytes t bytes held long in
+    read_all c.args.self.now.blobs c.args.account.now c.args.blobs.now c.args.at c.loop-number.skip c.loop-number.done c.loop-number.into bytes
+    ((g.D.Disk.told c.args.disk.now).reads Blobs) c.loop-number.number-index c.loop-number-test.false so_far.within long is
+    ∙ ap (λ n. take n (drop c.args.at bytes)) same

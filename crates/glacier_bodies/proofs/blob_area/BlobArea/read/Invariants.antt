@@ -1,8 +1,6 @@
-use Rattle.std.proofs.Common.{◌≡◌, ◌+◌, ◌-◌, ◌*◌, ◌<◌, ◌≤◌, ℕ, List, IsTrue, true, length, drop}
+use Rattle.std.proofs.Common.{◌≡◌, ◌+◌, ◌≤◌, ℕ, List, IsTrue, true, length, drop}
 use Rattle.glacier_disk.specs.declared.area.Area.TheVariants.{Blobs}
 use Rattle.glacier_disk.specs.Calls.{Rests}
-use Rattle.glacier_extents.specs.Places.{block_size}
-use Rattle.glacier_extents.specs.Runs.{block_count}
 use Rattle.glacier_bodies.specs.BlobAreas.{runs_of}
 use Rattle.glacier_bodies.specs.Blobs.{Holds}
 use Rattle.glacier_bodies.proofs.ReadLemmas.{IsAt}
@@ -15,8 +13,6 @@ invariant-loop-number g l = record {
   alone : g.D.Disk.by_disk l.fn.disk l.disk;
   faults : (g.D.Disk.told l.disk).disk_faults ≡ (g.D.Disk.told l.fn.disk).disk_faults;
   rests : Rests (g.D.Disk.told l.fn.disk) (g.D.Disk.told l.disk);
-  room : l.done < length l.into
-      → l.skip + (length l.into - l.done) ≤ block_count (runs_of l.self.blobs l.account (drop l.number-index l.blobs)) * block_size;
   bytes : IsTrue g.D.Disk.tells → (bytes : List ℕ)
       → Holds (runs_of l.self.blobs l.account l.blobs) bytes ((g.D.Disk.told l.fn.disk).reads Blobs)
       → l.at + length l.into ≤ length bytes
