@@ -85,6 +85,7 @@ module _ (a : AccountState) (m : ℕ) (le : a.last ≤ m) (lawful : IsLawful a) 
         finished = up.finished;
         open_or_finished = up.open_or_finished;
         jobs = up.jobs;
+        named = up.named;
         lock = right;
         due = up.due;
       })

@@ -9,7 +9,7 @@ use Rattle.std.proofs.lemmas.Bool.{eqb-true, le-leb, leb-true}
 use Rattle.glacier_base.specs.Maps.{changed_at}
 use Rattle.glacier_vault.specs.Due.{sooner, soonest, job_due, finished_due, lock_due, held_due, content_due, vault_due, due_in}
 use Rattle.glacier_vault.specs.Lawful.{IsLawful, IsLawfulVault}
-use Rattle.glacier_vault.specs.Named.{is_done, is_of, is_named, is_waiting, names}
+use Rattle.glacier_vault.specs.Named.{is_done, is_of, is_named, is_waiting, named_in, names}
 use Rattle.glacier_vault.specs.declared.archive.Archive.{Archive}
 use Rattle.glacier_vault.specs.declared.archive.Finished.{Finished}
 use Rattle.glacier_vault.specs.declared.due.TheConstants.{DAY}
@@ -22,12 +22,13 @@ use Rattle.glacier_vault.specs.declared.job.Work.TheVariants as works
 use Rattle.glacier_vault.specs.declared.lock.Lock.{Lock}
 use Rattle.glacier_vault.specs.declared.state.AccountState.{AccountState}
 use Rattle.glacier_vault.specs.declared.state.VaultState.{VaultState}
+use Rattle.glacier_vault.proofs.AnyLemmas.{any-empty, any-insert, any-changed_at, any_same}
 use Rattle.glacier_vault.proofs.DueLemmas.{due_in-sooner, due_in-same}
+use Rattle.glacier_vault.proofs.NamingLemmas.{contains_named, named_in-changed_at}
 use Rattle.glacier_vault.proofs.SoonerLemmas.{sooner-none, sooner-assoc, sooner-swap}
 use Rattle.glacier_vault.proofs.SoonestLemmas.{soonest-missing, soonest-changed_at, any-keys-insert}
-use Rattle.glacier_restore.specs.Moments.{asks_held, names_held}
+use Rattle.glacier_restore.specs.Moments.{asks_loose, names_loose}
 use Rattle.glacier_restore.specs.Putting.{with_archive, with_finished, with_job, one_line_more, with_line, in_job, with_lock}
-use Rattle.glacier_vault.proofs.AnyLemmas.{any-empty, any-insert, any-changed_at, any_same}
 
 -- nothing is sooner than 0
 at_once : (a : Option ℕ) → sooner a (Some 0) ≡ Some 0
@@ -58,25 +59,54 @@ still_done line stages.Failed = refl
 still_done line (stages.Done lines) = refl
 
 module _ (vault : VaultState) where
-  -- a job that names no held archive names none of them
-  names_other : (n : ℕ) → is_some (map.get vault.held n) ≡ true → (done : Bool) (work : Work) → (done && asks_held vault work) ≡ false → (done && is_of n work) ≡ false
-  names_other n there false work e = refl
-  names_other n there true (works.Inventory csv) e = refl
-  names_other n there true (works.Archive archive size tree first end range) e = at (nat_eq archive n) refl
-    where
-      at : (b : Bool) → nat_eq archive n ≡ b → b ≡ false
-      at true t = let no : true ≡ false = sym there ∙ ap (λ k. is_some (map.get vault.held k)) (sym (eqb-true archive n t)) ∙ e in cc
-      at false t = refl
+  module _ (kept : vault.named ≡ named_in vault.jobs) where
+    -- a job that names no loose archive leaves each held archive as named as it was
+    names_other : (n : ℕ) → is_some (map.get vault.held n) ≡ true → (done : Bool) (work : Work) → (done && asks_loose vault work) ≡ false → (is_named vault.jobs n || (done && is_of n work)) ≡ is_named vault.jobs n
+    names_other n there false work e = or_none (is_named vault.jobs n)
+    names_other n there true (works.Inventory csv) e = or_none (is_named vault.jobs n)
+    names_other n there true (works.Archive archive size tree first end range) e = at (nat_eq archive n) refl
+      where
+        loose : ℕ → Bool
+        loose k = is_some (map.get vault.held k) && not (map.contains_key vault.named k)
+
+        named_already : (held named : Bool) → held ≡ true → (held && not named) ≡ false → named ≡ true
+        named_already true true h l = refl
+        named_already true false h l = cc
+        named_already false named h l = cc
+
+        at : (b : Bool) → nat_eq archive n ≡ b → (is_named vault.jobs n || b) ≡ is_named vault.jobs n
+        at true t =
+            let same : loose n ≡ false = ap loose (sym (eqb-true archive n t)) ∙ e in
+            let named : is_named vault.jobs n ≡ true = sym (contains_named vault kept n) ∙ named_already (is_some (map.get vault.held n)) (map.contains_key vault.named n) there same in
+            ap (λ b. b || true) named ∙ sym named
+        at false t = or_none (is_named vault.jobs n)
+
+    -- what is looked up is what the jobs name
+    pub loose_is : list_any (λ n. not (map.contains_key vault.named n)) (map.keys vault.held) ≡ list_any (λ n. not (is_named vault.jobs n)) (map.keys vault.held)
+    loose_is = ap (λ (test : ℕ → Bool). list_any (λ n. not (test n)) (map.keys vault.held)) (λ i n. contains_named vault kept n i)
+
+  -- where an archive is loose, that is at once
+  pub due-loose : list_any (λ n. not (is_named vault.jobs n)) (map.keys vault.held) ≡ true → content_due vault ≡ Some 0
+  due-loose loose =
+      let ups = soonest finished_due (map.values vault.finished) in
+      let js = soonest job_due (map.values vault.jobs) in
+      ap (λ b. sooner js (sooner ups (cond b (Some 0) None))) loose ∙ ap (sooner js) (at_once ups) ∙ at_once js
+
+  -- and else what comes of its jobs and its finished uploads
+  pub due-none_loose : list_any (λ n. not (is_named vault.jobs n)) (map.keys vault.held) ≡ false → content_due vault ≡ sooner (soonest job_due (map.values vault.jobs)) (soonest finished_due (map.values vault.finished))
+  due-none_loose none =
+      let ups = soonest finished_due (map.values vault.finished) in
+      let js = soonest job_due (map.values vault.jobs) in
+      ap (λ b. sooner js (sooner ups (cond b (Some 0) None))) none ∙ ap (sooner js) (sooner-none ups)
 
   module _ (number : ℕ) where
-    module _ (job : Job) (none : map.get vault.jobs number ≡ None) (other : names_held vault job ≡ false) where
+    module _ (job : Job) (none : map.get vault.jobs number ≡ None) (kept : vault.named ≡ named_in vault.jobs) (other : names_loose vault job ≡ false) where
       held_due-job : held_due (record vault { jobs = map.insert vault.jobs number job }) ≡ held_due vault
       held_due-job = ap (λ b. cond b (Some 0) None) (any_same nat_cmp_total
           (λ n. not (is_named (map.insert vault.jobs number job) n)) (λ n. not (is_named vault.jobs n)) (map.keys vault.held)
           (λ n e. ap not (
           any-insert nat_cmp_total (names n) vault.jobs number job none
-          ∙ ap (λ b. is_named vault.jobs n || b) (names_other n (map.contains_key-keys vault.held n ∙ e) (is_done job.stage) job.work other)
-          ∙ or_none (is_named vault.jobs n))))
+          ∙ names_other kept n (map.contains_key-keys vault.held n ∙ e) (is_done job.stage) job.work other)))
 
       pub content_due-job : vault.due ≡ content_due vault → content_due (record vault { jobs = map.insert vault.jobs number job }) ≡ sooner vault.due (job_due job)
       content_due-job due =
@@ -110,7 +140,11 @@ module _ (vault : VaultState) where
         let js = soonest job_due (map.values vault.jobs) in
         ap (λ x. sooner js (sooner ups x)) held ∙ ap (sooner js) (at_once ups) ∙ at_once js
 
-    -- a line moves nothing
+    -- a line names nothing
+    pub named_in-line : (job : Job) → map.get vault.jobs number ≡ Some job → (line : Line) → named_in (changed_at (with_line line) vault.jobs number) ≡ named_in vault.jobs
+    named_in-line job there line = named_in-changed_at vault.jobs number (with_line line) job there (λ n. ap (λ b. b && is_of n job.work) (still_done line job.stage))
+
+    -- and moves nothing
     pub content_due-line : (job : Job) → map.get vault.jobs number ≡ Some job → (line : Line) → content_due (in_job number line vault) ≡ content_due vault
     content_due-line job there line =
         let ups = soonest finished_due (map.values vault.finished) in
@@ -145,14 +179,14 @@ module _ (a : AccountState) (lawful : IsLawful a) (name : List ℕ) (vault : Vau
         (ap (λ x. sooner x (lock_due vault.lock)) (content_due-finished vault number finished none right.due) ∙ sooner-swap vault.due (finished_due finished) (lock_due vault.lock))
 
     pub due-job : (job : Job) → map.get vault.jobs number ≡ None
-        → cond (names_held vault job) (due_in (changed_at (with_job number job) a.vaults name)) (sooner a.due (job_due job)) ≡ due_in (changed_at (with_job number job) a.vaults name)
-    due-job job none = at (names_held vault job) refl
+        → cond (names_loose vault job) (due_in (changed_at (with_job number job) a.vaults name)) (sooner a.due (job_due job)) ≡ due_in (changed_at (with_job number job) a.vaults name)
+    due-job job none = at (names_loose vault job) refl
       where
-        at : (b : Bool) → names_held vault job ≡ b
+        at : (b : Bool) → names_loose vault job ≡ b
             → cond b (due_in (changed_at (with_job number job) a.vaults name)) (sooner a.due (job_due job)) ≡ due_in (changed_at (with_job number job) a.vaults name)
         at true t = refl
         at false t = due_sooner (with_job number job) (job_due job)
-            (ap (λ x. sooner x (lock_due vault.lock)) (content_due-job vault number job none t right.due) ∙ sooner-swap vault.due (job_due job) (lock_due vault.lock))
+            (ap (λ x. sooner x (lock_due vault.lock)) (content_due-job vault number job none right.named t right.due) ∙ sooner-swap vault.due (job_due job) (lock_due vault.lock))
 
   no_lock : (r : Option Lock) → is_none r ≡ true → r ≡ None
   no_lock None e = refl

@@ -10,7 +10,7 @@ use Rattle.glacier_extents.specs.declared.run.Run.{Run}
 use Rattle.glacier_treehash.specs.Roots.{root_of_digests}
 use Rattle.glacier_vault.specs.Account.{empty_account, new_vault}
 use Rattle.glacier_vault.specs.Lawful.{IsLawfulBody}
-use Rattle.glacier_vault.specs.Rows.{in_vault, with_vaults}
+use Rattle.glacier_vault.specs.Rows.{in_vault, with_jobs, with_vaults}
 use Rattle.glacier_vault.specs.Totals.{Archives, Vaults, bytes_in, need}
 use Rattle.glacier_vault.specs.declared.archive.Archive.{Archive}
 use Rattle.glacier_vault.specs.declared.archive.Finished.{Finished}
@@ -99,7 +99,7 @@ abbrev pub finished_made : VaultState → map.FinMap nat_cmp Finished → VaultS
 finished_made vault q = with_due (record (uploads_made vault vault.uploads) { finished = q })
 
 abbrev pub jobs_made : VaultState → map.FinMap nat_cmp Job → VaultState
-jobs_made vault q = with_due (record (finished_made vault vault.finished) { jobs = q })
+jobs_made vault q = with_due (with_jobs (finished_made vault vault.finished) q)
 
 abbrev pub lock_made : VaultState → Option Lock → VaultState
 lock_made vault r = record (jobs_made vault vault.jobs) { lock = r }

@@ -10,12 +10,14 @@ use Rattle.glacier_vault.specs.Account.{empty_account, new_vault}
 use Rattle.glacier_vault.specs.Due.{due_in}
 use Rattle.glacier_vault.specs.Lawful.{IsLawful, IsLawfulVault}
 use Rattle.glacier_vault.specs.Lengths.{snapshot_length}
+use Rattle.glacier_vault.specs.Named.{named_in}
 use Rattle.glacier_vault.specs.Totals.{Vaults, vault_total, blocks, each_upload, each_job, used_in, uploads_in, jobs_in}
 use Rattle.glacier_vault.specs.declared.archive.Archive.{Archive}
 use Rattle.glacier_vault.specs.declared.state.AccountState.{AccountState}
 use Rattle.glacier_vault.specs.declared.state.VaultState.{VaultState}
 use Rattle.glacier_vault.proofs.DueLemmas.{due_in-empty, content_due-new_vault}
 use Rattle.glacier_vault.proofs.LengthLemmas.{length-empty}
+use Rattle.glacier_vault.proofs.NamingLemmas.{named_in-empty}
 use Rattle.glacier_vault.proofs.TotalsLemmas.{sum_by-empty}
 use Rattle.glacier_records.specs.declared.kept.Kept.TheVariants as kept
 use Rattle.glacier_restore.specs.Moments.{with_due}
@@ -27,7 +29,7 @@ use Rattle.glacier_restore.proofs.AgainLemmas.{none_of_one, archives_again, held
 use Rattle.glacier_restore.proofs.EachLemmas.{HasRoom, put_all-append, put_all-cons, each_entry}
 use Rattle.glacier_restore.proofs.GrownLemmas.{right_vault}
 use Rattle.glacier_restore.proofs.JobsAgain.{jobs_again, lock_again}
-use Rattle.glacier_restore.proofs.PlacedLemmas.{both, le_test, account_of, stand, archives_made}
+use Rattle.glacier_restore.proofs.PlacedLemmas.{both, le_test, account_of, stand, archives_made, finished_made, jobs_made}
 
 module _ (runs : ℕ → List Run) (a : AccountState) (lawful : IsLawful a) where
   module _ (p : Vaults) (name : List ℕ) (vault : VaultState) (there : map.get a.vaults name ≡ Some vault) where
@@ -42,6 +44,7 @@ module _ (runs : ℕ → List Run) (a : AccountState) (lawful : IsLawful a) wher
 
     held_again_in : IsSoundVault vault → map.get p name ≡ None → HasRoom a.vaults p vault → put_all (stand a p name (archives_made vault map.empty)) (held_in runs name vault) ≡ Some (stand a p name vault)
     held_again_in sound none room =
+        let no_names : Some (stand a p name (finished_made vault vault.finished)) ≡ Some (stand a p name (jobs_made vault map.empty)) = ap (λ named. Some (stand a p name (record (finished_made vault vault.finished) { named = named }))) (sym named_in-empty) in
         let jobs = of_each (job_items name) vault.jobs ++ lock_items name vault.lock in
         let finished = of_each (finished_items name) vault.finished ++ jobs in
         let uploads = of_each (upload_items runs name) vault.uploads ++ finished in
@@ -49,10 +52,11 @@ module _ (runs : ℕ → List Run) (a : AccountState) (lawful : IsLawful a) wher
         put_all-append (of_each (archive_items runs name) vault.archives) held _ _ (archives_again a lawful name vault there runs p none room)
         ∙ put_all-append (of_each (held_items runs name) vault.held) uploads _ _ (held_again a lawful name vault there runs p none room)
         ∙ put_all-append (of_each (upload_items runs name) vault.uploads) finished _ _ (uploads_again a lawful name vault there runs p none room)
-        ∙ put_all-append (of_each (finished_items name) vault.finished) jobs _ _ (finished_again a lawful name vault there runs p none room sound)
+        ∙ put_all-append (of_each (finished_items name) vault.finished) jobs _ _ (finished_again a lawful name vault there runs p none room sound ∙ no_names)
         ∙ put_all-append (of_each (job_items name) vault.jobs) (lock_items name vault.lock) _ _ (jobs_again a p name vault right sound)
         ∙ lock_again a p name vault vault.lock right.lock
-        ∙ ap (λ bytes. Some (stand a p name (with_due (record vault { bytes = bytes })))) (sym right.bytes)
+        ∙ ap (λ bytes. Some (stand a p name (with_due (record vault { bytes = bytes; named = named_in vault.jobs })))) (sym right.bytes)
+        ∙ ap (λ named. Some (stand a p name (with_due (record vault { named = named })))) (sym right.named)
         ∙ ap (λ due. Some (stand a p name (record vault { due = due }))) (sym right.due)
 
     vault_again : IsSoundVault vault → map.get p name ≡ None → HasRoom a.vaults p vault → put_all (account_of a.last a.counter p) (vault_items runs name vault) ≡ Some (account_of a.last a.counter (map.insert p name vault))

@@ -102,6 +102,7 @@ module _ (a : AccountState) (vault : VaultState) (lawful : IsLawfulVault a.count
                 (record { drawn = lt_of _ _ past.0; right = le_of _ _ past.1 }) (lawful.finished n);
             open_or_finished = comes_apart vault.finished vault.uploads number finished (none_there _ free.0) lawful.open_or_finished;
             jobs = lawful.jobs;
+            named = lawful.named;
             lock = lawful.lock;
             due = refl;
           }
@@ -170,6 +171,7 @@ module _ (a : AccountState) (vault : VaultState) (lawful : IsLawfulVault a.count
     finished = lawful.finished;
     open_or_finished = lawful.open_or_finished;
     jobs = lawful.jobs;
+    named = lawful.named;
     lock = right;
     due = lawful.due;
   }

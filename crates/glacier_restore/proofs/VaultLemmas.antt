@@ -12,7 +12,7 @@ use Rattle.glacier_base.proofs.Sums.{weight, sum_by-insert}
 use Rattle.glacier_treehash.specs.Roots.{root_of_digests}
 use Rattle.glacier_vault.specs.Due.{content_due}
 use Rattle.glacier_vault.specs.Lawful.{IsLawfulBody, IsLawfulArchive, IsLawfulUpload, IsLawfulJob, IsLawfulVault, IsDrawn}
-use Rattle.glacier_vault.specs.Rows.{with_archives}
+use Rattle.glacier_vault.specs.Rows.{with_archives, with_jobs}
 use Rattle.glacier_vault.specs.Totals.{Archives, need, bytes_in}
 use Rattle.glacier_vault.specs.declared.archive.Archive.{Archive}
 use Rattle.glacier_vault.specs.declared.archive.Upload.{Upload}
@@ -83,13 +83,14 @@ module _ (a : AccountState) (vault : VaultState) (lawful : IsLawfulVault a.count
     finished = lawful.finished;
     open_or_finished = apart;
     jobs = lawful.jobs;
+    named = lawful.named;
     lock = lawful.lock;
     due = lawful.due;
   }
 
-  -- with other jobs, and the moment that is due then
+  -- with other jobs, what they name, and the moment that is due then
   pub right_jobs : (jobs : map.FinMap nat_cmp Job) (due : Option ℕ) → due ≡ content_due (record vault { jobs = jobs }) → ((n : ℕ) → IfSome (map.get jobs n) (IsDrawn a.counter (IsLawfulJob a.counter a.last vault.archives vault.held) n))
-      → IsLawfulVault a.counter a.last (record vault { jobs = jobs; due = due })
+      → IsLawfulVault a.counter a.last (record (with_jobs vault jobs) { due = due })
   right_jobs jobs due is right = record {
     created = lawful.created;
     bytes = lawful.bytes;
@@ -100,6 +101,7 @@ module _ (a : AccountState) (vault : VaultState) (lawful : IsLawfulVault a.count
     finished = lawful.finished;
     open_or_finished = lawful.open_or_finished;
     jobs = right;
+    named = refl;
     lock = lawful.lock;
     due = is;
   }
@@ -118,6 +120,7 @@ module _ (a : AccountState) (vault : VaultState) (lawful : IsLawfulVault a.count
     finished = lawful.finished;
     open_or_finished = lawful.open_or_finished;
     jobs = λ n. subst (λ m. IfSome (map.get m n) (IsDrawn a.counter (IsLawfulJob a.counter a.last archives held) n)) (sym (map.empty_of_len vault.jobs none)) (if_some-empty nat_cmp (IsDrawn a.counter (IsLawfulJob a.counter a.last archives held) n) n);
+    named = lawful.named;
     lock = lawful.lock;
     due = is;
   }

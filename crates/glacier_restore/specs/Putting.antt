@@ -3,7 +3,7 @@ use Rattle.std.specs.Prelude.{ℕ, Bool, true, false, not, ◌&&◌, List, [], �
 use Rattle.std.specs.FinMap as map
 use Rattle.glacier_base.specs.Maps.{changed_at}
 use Rattle.glacier_vault.specs.Account.{new_vault}
-use Rattle.glacier_vault.specs.Rows.{in_vault, with_archives, with_vaults}
+use Rattle.glacier_vault.specs.Rows.{in_vault, with_archives, with_jobs, with_vaults}
 use Rattle.glacier_vault.specs.declared.archive.Archive.{Archive}
 use Rattle.glacier_vault.specs.declared.archive.Finished.{Finished}
 use Rattle.glacier_vault.specs.declared.archive.Part.{Part}
@@ -36,7 +36,7 @@ abbrev pub with_finished : ℕ → Finished → VaultState → VaultState
 with_finished number finished vault = with_due (record vault { finished = map.insert vault.finished number finished })
 
 abbrev pub with_job : ℕ → Job → VaultState → VaultState
-with_job number job vault = with_due (record vault { jobs = map.insert vault.jobs number job })
+with_job number job vault = with_due (with_jobs vault (map.insert vault.jobs number job))
 
 abbrev pub one_line_more : Line → Stage → Stage
 one_line_more line (stages.Done lines) = stages.Done (lines ++ line ∷ [])
@@ -47,7 +47,7 @@ abbrev pub with_line : Line → Job → Job
 with_line line job = record job { stage = one_line_more line job.stage }
 
 abbrev pub in_job : ℕ → Line → VaultState → VaultState
-in_job number line vault = record vault { jobs = changed_at (with_line line) vault.jobs number }
+in_job number line vault = with_jobs vault (changed_at (with_line line) vault.jobs number)
 
 abbrev pub with_lock : Lock → VaultState → VaultState
 with_lock lock vault = record vault { lock = Some lock }

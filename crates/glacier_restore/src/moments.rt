@@ -3,48 +3,18 @@ ghost use Rattle.std.specs.Prelude.{◌≡◌, not};
 ghost use Rattle.std.specs.FinMap as map;
 ghost use Rattle.std.specs.List.{list_any};
 ghost use Rattle.glacier_vault.specs.Due as due;
-ghost use Rattle.glacier_vault.specs.Named.{is_named, is_of, names};
-ghost use Rattle.glacier_restore.specs.Moments.{asks_held, names_held};
+ghost use Rattle.glacier_vault.specs.Named.{named_in};
+ghost use Rattle.glacier_restore.specs.Moments.{asks_loose, names_loose};
 
 use crate::fitting::is_done;
 use glacier_base::NumberMap;
-use glacier_vault::{Finished, Job, VaultState, Work, finished_due, job_due, sooner};
+use glacier_vault::{Archive, Finished, Job, VaultState, Work, finished_due, job_due, sooner};
 
-fn is_of(number: u64, work: &Work) -> bool
-    ensures { result ≡ is_of number work.now }
+/// Whether one of the held archives isn't among those named: each is looked up, until one is found.
+fn some_is_loose(held: &NumberMap<Archive>, named: &NumberMap<()>) -> bool
+    ensures { result ≡ list_any (λ number. not (map.contains_key named.now number)) (map.keys held.now) }
 {
-    match work {
-        Work::Archive { archive, .. } => *archive == number,
-        Work::Inventory { .. } => false,
-    }
-}
-
-fn names(number: u64, job: &Job) -> bool
-    ensures { result ≡ names number job.now }
-{
-    is_done(&job.stage) && is_of(number, &job.work)
-}
-
-fn is_named(jobs: &NumberMap<Job>, number: u64) -> bool
-    ensures { result ≡ is_named jobs.now number }
-{
-    jobs.values().any(|job| names(number, job))
-}
-
-/// Whether one of the held archives is named by no finished job.
-fn some_is_loose(vault: &VaultState) -> bool
-    ensures { result ≡ list_any (λ number. not (is_named vault.now.jobs number)) (map.keys vault.now.held) }
-{
-    vault
-        .held
-        .keys()
-        .any(|number| !is_named(&vault.jobs, *number))
-}
-
-fn held_due(vault: &VaultState) -> Option<u64>
-    ensures { result ≡ due.held_due vault.now }
-{
-    if some_is_loose(vault) { Some(0) } else { None }
+    held.keys().any(|number| !named.contains(*number))
 }
 
 #[tactic(auto, using(glacier_vault::proofs::SoonerLemmas::adding))]
@@ -69,28 +39,33 @@ fn uploads_due(finished: &NumberMap<Finished>) -> Option<u64>
     soonest
 }
 
-/// The moment that is due among what a vault holds: all of it is walked.
+/// The moment that is due among what a vault holds. Its jobs and its finished uploads are walked only
+/// where no held archive is loose.
 pub(crate) fn content_due(vault: &VaultState) -> Option<u64>
+    requires { vault.now.named ≡ named_in vault.now.jobs }
     ensures { result ≡ due.content_due vault.now }
 {
-    sooner(
-        jobs_due(&vault.jobs),
-        sooner(uploads_due(&vault.finished), held_due(vault)),
-    )
+    if some_is_loose(&vault.held, &vault.named) {
+        return Some(0);
+    }
+    sooner(jobs_due(&vault.jobs), uploads_due(&vault.finished))
 }
 
-fn asks_held(vault: &VaultState, work: &Work) -> bool
-    ensures { result ≡ asks_held vault.now work.now }
+fn asks_loose(vault: &VaultState, work: &Work) -> bool
+    ensures { result ≡ asks_loose vault.now work.now }
 {
     match work {
-        Work::Archive { archive, .. } => vault.held.contains(*archive),
+        Work::Archive { archive, .. } => {
+            vault.held.contains(*archive) && !vault.named.contains(*archive)
+        }
         Work::Inventory { .. } => false,
     }
 }
 
-/// Whether a job is done and names an archive that is held, so that this one may be loose no more.
-pub(crate) fn names_held(vault: &VaultState, job: &Job) -> bool
-    ensures { result ≡ names_held vault.now job.now }
+/// Whether a job is done and names a held archive that no finished job names yet, so that this one
+/// is loose no more.
+pub(crate) fn names_loose(vault: &VaultState, job: &Job) -> bool
+    ensures { result ≡ names_loose vault.now job.now }
 {
-    is_done(&job.stage) && asks_held(vault, &job.work)
+    is_done(&job.stage) && asks_loose(vault, &job.work)
 }

@@ -3,39 +3,42 @@ ghost use Rattle.std.specs.Prelude.{◌≡◌, [], IfOk, OnOk, is_some, unwrap_o
 ghost use Rattle.std.specs.FinMap as map;
 ghost use Rattle.glacier_vault.specs.Due.{content_due, due_in, sooner};
 ghost use Rattle.glacier_vault.specs.Lawful.{IsLawful};
+ghost use Rattle.glacier_vault.specs.Named.{named_in};
 ghost use Rattle.glacier_restore.specs.Putting.{put_job, put_line, with_job, with_line};
 ghost use Rattle.glacier_restore.specs.Snapshot.{lines_of};
 
 use crate::{fitting, moments};
 use glacier_base::{Memory, VaultName};
 use glacier_vault::{
-    AccountState, Job, Line, Stage, VaultState, due_of_vaults, job_due, length_with_job,
+    AccountState, Job, Line, Stage, VaultState, add_name, due_of_vaults, job_due, length_with_job,
     length_with_line, name_length, sooner,
 };
 
 /// Puts a job at a number that a vault doesn't have. What is due among all that the vault holds is
-/// looked for again only where the job names an archive that is held.
+/// looked for again only where the job names a held archive that was loose.
 fn insert_job(vault: &mut VaultState, number: u64, job: Job) -> Result<(), Memory>
-    requires due { vault.old.due ≡ content_due vault.old }
+    requires kept { (vault.old.due ≡ content_due vault.old)
+        × (vault.old.named ≡ named_in vault.old.jobs) }
     requires missing { map.get vault.old.jobs number ≡ None }
     ensures { OnOk result (vault.new ≡ with_job number job vault.old) }
 {
-    if moments::names_held(vault, &job) {
-        vault.jobs.insert(number, job)?;
+    let names_loose = moments::names_loose(vault, &job);
+    let due = sooner(vault.due, job_due(&job));
+    add_name(&mut vault.named, &job)?;
+    vault.jobs.insert(number, job)?;
+    if names_loose {
         vault.due = moments::content_due(vault);
         return Ok(());
     }
-    let due = sooner(vault.due, job_due(&job));
-    vault.jobs.insert(number, job)?;
     vault.due = due;
     Ok(())
 }
 
 /// The moment that is due in an account behind a job that is due at a moment.
-fn due_with_job(state: &AccountState, names_held: bool, due: Option<u64>) -> Option<u64>
-    ensures { result ≡ (if names_held then due_in state.now.vaults else sooner state.now.due due) }
+fn due_with_job(state: &AccountState, names_loose: bool, due: Option<u64>) -> Option<u64>
+    ensures { result ≡ (if names_loose then due_in state.now.vaults else sooner state.now.due due) }
 {
-    if names_held {
+    if names_loose {
         due_of_vaults(&state.vaults)
     } else {
         sooner(state.due, due)
@@ -67,7 +70,7 @@ pub(crate) fn put_job(
     let Some(length) = length_with_job(state.length, name_length(name), &job) else {
         return Err(Memory);
     };
-    let names_held = moments::names_held(vault, &job);
+    let names_loose = moments::names_loose(vault, &job);
     let due = job_due(&job);
     let Some(vault) = state.vaults.get_mut(name) else {
         unreachable!();
@@ -75,7 +78,7 @@ pub(crate) fn put_job(
     insert_job(vault, number, job)?;
     state.jobs = jobs;
     state.length = length;
-    state.due = due_with_job(state, names_held, due);
+    state.due = due_with_job(state, names_loose, due);
     Ok(true)
 }
 

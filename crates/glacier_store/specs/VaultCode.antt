@@ -1,5 +1,5 @@
 -- The code of a vault, by which a proof tells two of them apart.
-use Rattle.std.specs.Prelude.{◌≡◌, ◌⊎◌, ℕ, zero, suc, Bool, List, Option, Some, None, refl}
+use Rattle.std.specs.Prelude.{◌≡◌, ◌⊎◌, ℕ, zero, suc, Bool, true, List, Option, Some, None, refl}
 use Rattle.std.specs.Coded.{Coded, code_by, coded×, coded⊎, coded_ℕ, coded_bool, coded_list, coded_option}
 use Rattle.std.specs.FinMap as map
 use Rattle.std.specs.Ordering.{nat_cmp}
@@ -125,9 +125,12 @@ job_code =
     (λ p. record { created = p.0; ready = p.1.0; tier = p.1.1.0; description = p.1.1.1.0; work = p.1.1.1.1.0; stage = p.1.1.1.1.1 })
     (λ _. refl)
 
+nothing_code : Coded (Unit {0})
+nothing_code = code_by Bool coded_bool (λ _. true) (λ _. tt) (λ _. refl)
+
 pub vault_code : Coded VaultState
 vault_code =
-    code_by (ℕ × (map.FinMap nat_cmp Archive × (ℕ × (map.FinMap nat_cmp Archive × (map.FinMap nat_cmp Upload × (map.FinMap nat_cmp Finished × (map.FinMap nat_cmp Job × (Option Lock × Option ℕ)))))))) (coded× coded_ℕ (coded× (map.code coded_ℕ archive_code) (coded× coded_ℕ (coded× (map.code coded_ℕ archive_code) (coded× (map.code coded_ℕ upload_code) (coded× (map.code coded_ℕ finished_code) (coded× (map.code coded_ℕ job_code) (coded× (coded_option lock_code) (coded_option coded_ℕ)))))))))
-    (λ v. (v.created, (v.archives, (v.bytes, (v.held, (v.uploads, (v.finished, (v.jobs, (v.lock, v.due)))))))))
-    (λ p. record { created = p.0; archives = p.1.0; bytes = p.1.1.0; held = p.1.1.1.0; uploads = p.1.1.1.1.0; finished = p.1.1.1.1.1.0; jobs = p.1.1.1.1.1.1.0; lock = p.1.1.1.1.1.1.1.0; due = p.1.1.1.1.1.1.1.1 })
+    code_by (ℕ × (map.FinMap nat_cmp Archive × (ℕ × (map.FinMap nat_cmp Archive × (map.FinMap nat_cmp Upload × (map.FinMap nat_cmp Finished × (map.FinMap nat_cmp Job × (map.FinMap nat_cmp (Unit {0}) × (Option Lock × Option ℕ))))))))) (coded× coded_ℕ (coded× (map.code coded_ℕ archive_code) (coded× coded_ℕ (coded× (map.code coded_ℕ archive_code) (coded× (map.code coded_ℕ upload_code) (coded× (map.code coded_ℕ finished_code) (coded× (map.code coded_ℕ job_code) (coded× (map.code coded_ℕ nothing_code) (coded× (coded_option lock_code) (coded_option coded_ℕ))))))))))
+    (λ v. (v.created, (v.archives, (v.bytes, (v.held, (v.uploads, (v.finished, (v.jobs, (v.named, (v.lock, v.due))))))))))
+    (λ p. record { created = p.0; archives = p.1.0; bytes = p.1.1.0; held = p.1.1.1.0; uploads = p.1.1.1.1.0; finished = p.1.1.1.1.1.0; jobs = p.1.1.1.1.1.1.0; named = p.1.1.1.1.1.1.1.0; lock = p.1.1.1.1.1.1.1.1.0; due = p.1.1.1.1.1.1.1.1.1 })
     (λ _. refl)

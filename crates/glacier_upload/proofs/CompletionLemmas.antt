@@ -69,6 +69,7 @@ module _ (counter m : ℕ) (vault : VaultState) (lawful : IsLawfulVault counter 
     open_or_finished = λ n some. map.get-remove nat_cmp_total vault.uploads number n
         ∙ gone n (eq_by_cmp nat_cmp n number) refl (subst IsSome (map.get-insert nat_cmp_total vault.finished number finished n) some);
     jobs = lawful.jobs;
+    named = lawful.named;
     lock = lawful.lock;
     due = content_due-completed number counter archive vault counter m lawful upload is_open;
   }

@@ -47,6 +47,7 @@ module _ (counter last : ℕ) (vault : VaultState) (lawful : IsLawfulVault count
               ∙ ap (λ b. cond b (Some upload) (map.get vault.uploads n)) (other_than_next (λ (f : Finished). f.at ≤ last) counter n (map.get vault.finished n) (lawful.finished n) some)
               ∙ lawful.open_or_finished n some;
           jobs = up.jobs;
+          named = lawful.named;
           lock = up.lock;
           due = lawful.due;
         }
@@ -63,6 +64,7 @@ module _ (counter last : ℕ) (vault : VaultState) (lawful : IsLawfulVault count
       finished = lawful.finished;
       open_or_finished = λ n some. map.get-remove nat_cmp_total vault.uploads number n ∙ none (eq_by_cmp nat_cmp n number) (map.get vault.uploads n) (lawful.open_or_finished n some);
       jobs = lawful.jobs;
+      named = lawful.named;
       lock = lawful.lock;
       due = lawful.due;
     }
@@ -94,6 +96,7 @@ module _ (counter last : ℕ) (vault : VaultState) (lawful : IsLawfulVault count
         finished = lawful.finished;
         open_or_finished = λ n some. get-changed_at nat_cmp_total f vault.uploads number n ∙ none (eq_by_cmp nat_cmp n number) (map.get vault.uploads n) (lawful.open_or_finished n some);
         jobs = lawful.jobs;
+        named = lawful.named;
         lock = lawful.lock;
         due = lawful.due;
       }

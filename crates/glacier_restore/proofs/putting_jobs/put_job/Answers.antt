@@ -17,3 +17,8 @@ returns-clause-state c =
     let right = right_vault c.args.state.now c.requires.lawful c.args.name.now c.in-Some.vault.now (sym c.in-Some.ensures) in
     let due = due-job c.args.state.now c.requires.lawful c.args.name.now c.in-Some.vault.now (sym c.in-Some.ensures) right c.args.number c.args.job (new_job c.args.state.now c.args.number c.in-Some.vault.now c.args.job (sym c.if-not-takes_job.ensures)) in
     grind (arith, common_steps)
+
+pub insert_job-requires-clause-kept : goal.insert_job-requires-clause-kept
+insert_job-requires-clause-kept c =
+    let right = right_vault c.args.state.now c.requires.lawful c.args.name.now c.in-Some-get_mut.vault.now (sym c.in-Some-get_mut.ensures.value) in
+    (right.due, right.named)
