@@ -74,7 +74,7 @@ take_none accounts k e = same _ _ (λ q.
     at q false t = refl
 
 -- an account with no event is put back where it was there
-put_back : (accounts : Accounts) (k : List ℕ) (r : Option AccountState) → map.get accounts k ≡ r
+pub put_back : (accounts : Accounts) (k : List ℕ) (r : Option AccountState) → map.get accounts k ≡ r
     → cond (is_some r) (map.insert (map.remove accounts k) k (unwrap_or r empty_account)) (map.remove accounts k)
     ≡ accounts
 put_back accounts k None e = take_none accounts k e

@@ -1,4 +1,6 @@
 pub mod AccountLemmas
+pub mod AdvanceLemmas
+pub mod ChangeLemmas
 pub mod CommitLemmas
 pub mod EventLemmas
 pub mod EventOfLemmas
@@ -11,4 +13,5 @@ pub mod RecoverLemmas
 pub mod ReplayedLemmas
 pub mod RoomLemmas
 pub mod StandsLemmas
+pub mod StepLemmas
 pub mod StreamLemmas

@@ -96,7 +96,7 @@ pub record OnlyFree (old new : Holding) : Type 0 where
 pub record HasBegun (old new : AreaState) (count : ℕ) (body : Body) : Type 0 where
   pub enough : count ≤ block_count old.free
   pub lowest : Claims count old.free new.free (body_runs body)
-  pub open : IsOpen new (body_runs body)
+  pub opened : IsOpen new (body_runs body)
   pub empty : HasTaken body []
   pub others : (runs : List Run) → IsOpen old runs → IsOpen new runs × IsApart (has_block (body_runs body)) runs
 

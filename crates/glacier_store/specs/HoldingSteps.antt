@@ -1,5 +1,6 @@
 -- What time and what is asked for make of a holding: their events, the accounts after them, and what is kept.
 use Rattle.std.specs.Prelude.{◌≡◌, ◌⊎◌, ℕ, ◌+◌, ◌<◌, ◌≤◌, ◌^◌, List, [], ◌∷◌, Some, None, Result, Ok, Err, IfOk, OnOk, IfErr, IsErrOf}
+use Rattle.glacier_disk.specs.Moments.{Looks}
 use Rattle.glacier_disk.specs.Told.{Told}
 use Rattle.glacier_disk.specs.Touches.{Touches}
 use Rattle.glacier_journal.specs.declared.journal.Journal.{Journal}
@@ -70,7 +71,7 @@ pub record Advances (old new : Told) (holding : Holding) (happened : List Accoun
   pub memory : (state : State) → IsKept old holding state → IsErrOf result fault.Memory → Remains old new state
   pub kept : (state : State) → IsKept old holding state → IfOk result (λ done. IsKept new done (after_all state happened))
   pub touches : Touches holding.journal.area old new
-  pub idle : happened ≡ [] → new ≡ old
+  pub idle : happened ≡ [] → Looks old new
 
 -- the bytes that the records of events without a body take in the journal
 abbrev pub room_of : List AccountEvent → ℕ

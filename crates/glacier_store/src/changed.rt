@@ -1,6 +1,7 @@
 // What a change makes of the accounts, and the keeping of its event.
-ghost use Rattle.std.specs.Prelude.{◌≡◌, ◌≤◌, ◌||◌, None, true, IsSome, IsTrue, IfOk, IfSome};
+ghost use Rattle.std.specs.Prelude.{◌≡◌, ◌≤◌, ◌||◌, [], None, true, IsSome, IsTrue, IfOk, IfSome};
 ghost use Rattle.std.specs.Option.{is_some};
+ghost use Rattle.glacier_disk.specs.Moments.{Looks};
 ghost use Rattle.glacier_machine.specs.AccountSteps.{step_of};
 ghost use Rattle.glacier_machine.specs.Moments.{moment_change};
 ghost use Rattle.glacier_vault.specs.Accounts.{account_in};
@@ -90,7 +91,7 @@ pub(crate) fn keep_change<D: Disk>(
         IsChangeOf before.accounts holding.accounts account.now m change.now →
         Keeps (D.told disk.old) (D.told disk.new) holding.journal holding.area [] before
         (after_all before (change_events account.now m change.now)) result }
-    ensures idle { change.now.event ≡ None → D.told disk.new ≡ D.told disk.old }
+    ensures idle { IsTrue D.tells → change.now.event ≡ None → Looks (D.told disk.old) (D.told disk.new) }
     ensures grows { GrowsBy holding.journal (room_of (change_events account.now m change.now)) result }
     ensures call { StoreCall (D.told disk.old) (D.told disk.new) result }
     ensures alone { D.by_disk disk.old disk.new }

@@ -1,0 +1,126 @@
+-- A holding goes on by the event of a change, or stays where there is none.
+use Rattle.std.proofs.Common.{◌≡◌, ℕ, ◌+◌, ◌<◌, ◌≤◌, ◌^◌, List, [], ◌∷◌, Option, Some, None, Ok, Err, refl, sym, ◌∙◌, ap, subst, arith, inl, inr}
+use Rattle.std.specs.FinMap as map
+use Rattle.std.specs.Prelude.{Result, IfOk, OnOk, IsErrOf}
+use Rattle.std.proofs.lemmas.Result.{IfOk-weaker, on_ok_weaker}
+use Rattle.glacier_bodies.specs.BlobAreas.{AreaState}
+use Rattle.glacier_disk.specs.Moments.{Looks, looks_start, weaker}
+use Rattle.glacier_disk.specs.Told.{Told, Lawful}
+use Rattle.glacier_disk.proofs.TouchesLemmas.{touches_start}
+use Rattle.glacier_journal.specs.declared.journal.Journal.{Journal}
+use Rattle.glacier_vault.specs.Accounts.{AccountEvent, Accounts, account_in}
+use Rattle.glacier_vault.specs.declared.event.Change.{Change}
+use Rattle.glacier_vault.specs.declared.event.Event.{Event}
+use Rattle.glacier_replay.specs.Changes.{State, after_account_event, after_all}
+use Rattle.glacier_store.specs.Held.{IsHeldBy, IsKept}
+use Rattle.glacier_store.specs.HoldingCalls.{IsEventOf, Keeps, Lengthens, event_at, record_room}
+use Rattle.glacier_store.specs.HoldingSteps.{Advances, GrowsBy, IsChangeOf, change_events, holding_left, room_of}
+use Rattle.glacier_store.specs.declared.fault.StoreFault.{StoreFault}
+use Rattle.glacier_store.specs.declared.fault.StoreFault.TheVariants as fault
+use Rattle.glacier_store.specs.declared.holding.Holding.{Holding}
+use Rattle.glacier_store.proofs.EventOfLemmas.{beside_none, rest_alone}
+use Rattle.glacier_store.proofs.HeldLemmas.{remains_start}
+use Rattle.glacier_store.proofs.KeepsLemmas.{kept_without_memory}
+
+-- where there is no event a holding stays as it is
+pub unchanged_keeps : (old : Told) (holding : Holding) (before : State) → Lawful old → holding.accounts ≡ before.accounts
+    → Keeps old old holding.journal holding.area [] before before (Ok holding)
+unchanged_keeps old holding before law accounts = record {
+  any_moment = λ held. weaker old old _ _ (remains_start old holding.journal holding.area.blobs before law held) (λ i stands. inl stands);
+  memory = λ held is. absurd (cc is);
+  kept = λ held beside. record { accounts = accounts; held = held; rest = rest_alone holding.area.free holding.area.blobs beside };
+  touches = touches_start holding.journal.area old law;
+}
+
+-- a holding that goes on as its parts say
+pub advanced : (old new : Told) (holding : Holding) (happened : List AccountEvent) (result : Result Holding StoreFault)
+    → ((state : State) → holding.accounts ≡ state.accounts → Keeps old new holding.journal holding.area [] state (after_all state happened) result)
+    → (happened ≡ [] → Looks old new) → Advances old new holding happened result
+advanced old new holding happened result keeps idle = record {
+  any_moment = λ state kept. (keeps state kept.accounts).any_moment kept.held;
+  memory = λ state kept is. (keeps state kept.accounts).memory kept.held is;
+  kept = λ state kept. (keeps state kept.accounts).kept kept.held (beside_none holding.area.free holding.area.blobs kept.rest);
+  touches = (keeps (record { accounts = holding.accounts; bodies = map.empty }) refl).touches;
+  idle = idle;
+}
+
+-- a change of the accounts that is kept
+pub change_advances : (old new : Told) (holding : Holding) (afterwards : Accounts) (k : List ℕ) (m : ℕ) (change : Change) (result : Result Holding StoreFault)
+    → IsChangeOf holding.accounts afterwards k m change
+    → ((before : State) → IsChangeOf before.accounts afterwards k m change → Keeps old new holding.journal holding.area [] before (after_all before (change_events k m change)) result)
+    → (change.event ≡ None → Looks old new) → Advances old new holding (change_events k m change) result
+change_advances old new holding afterwards k m change result is keeps idle =
+    advanced old new holding (change_events k m change) result
+    (λ state same. keeps state (subst (λ (all : Accounts). IsChangeOf all afterwards k m change) same is))
+    (λ none. idle (no_event change.event change.freed none))
+  where
+    no_event : (event : Option Event) (freed : List ℕ) → change_events k m (record { event = event; freed = freed }) ≡ [] → event ≡ None
+    no_event None freed none = refl
+    no_event (Some event) freed none = cc none
+
+-- memory was wanting before anything was kept
+pub no_memory_advances : (old : Told) (holding : Holding) (happened : List AccountEvent) (result : Result Holding StoreFault) → result ≡ Err fault.Memory → Lawful old → Advances old old holding happened result
+no_memory_advances old holding happened result is law =
+    advanced old old holding happened result (λ state same. kept_without_memory old holding.journal holding.area [] state (after_all state happened) result is law) (λ none. looks_start old law)
+
+-- the journal stays as long as it is
+pub grows_not : (holding : Holding) → GrowsBy holding.journal 0 (Ok holding)
+grows_not holding = record {
+  longer = omega arith;
+  within = λ some. absurd (omega (arith, some));
+  end = λ length is. absurd (cc is);
+  some = λ length is. absurd (cc is);
+  no_other = tt;
+}
+
+pub grows_none : (journal : Journal) (room : ℕ) (result : Result Holding StoreFault) → result ≡ Err fault.Memory → GrowsBy journal room result
+grows_none journal room result is = subst (λ (r : Result Holding StoreFault). GrowsBy journal room r) (sym is) (record {
+  longer = tt;
+  within = tt;
+  end = λ length is. absurd (cc is);
+  some = λ length is. absurd (cc is);
+  no_other = inr (inl refl);
+})
+
+-- and it grows by a record
+pub grows_once : (journal : Journal) (h : AccountEvent) (result : Result Holding StoreFault) → Lengthens journal (record_room h []) result → GrowsBy journal (room_of (h ∷ [])) result
+grows_once journal h result lengthens = record {
+  longer = IfOk-weaker result _ _ (λ done is. omega (arith, is)) lengthens.longer;
+  within = on_ok_weaker result (λ is some. omega (arith, is)) lengthens.within;
+  end = λ length is. (let e = lengthens.end length is in (e.0, omega (arith, e.1)));
+  some = λ length is. omega arith;
+  no_other = lengthens.no_other;
+}
+
+module _ (k : List ℕ) (m : ℕ) (freed : List ℕ) where
+  abbrev its : Option Event → List AccountEvent
+  its event = change_events k m (record { event = event; freed = freed })
+
+  -- a change without an event is kept
+  pub none_keeps : (old : Told) (holding : Holding) (before : State) (event : Option Event) → event ≡ None → Lawful old
+      → IsChangeOf before.accounts holding.accounts k m (record { event = event; freed = freed })
+      → Keeps old old holding.journal holding.area [] before (after_all before (its event)) (Ok holding)
+  none_keeps old holding before None none law is = unchanged_keeps old holding before law is
+  none_keeps old holding before (Some event) none law is = absurd (cc none)
+
+  -- and one with an event once that is
+  pub some_keeps : (old new : Told) (holding : Holding) (before : State) (event : Option Event) (e : Event) (result : Result Holding StoreFault) → event ≡ Some e
+      → IsChangeOf before.accounts holding.accounts k m (record { event = event; freed = freed })
+      → (IsEventOf before.accounts holding.accounts (event_at k m e []) freed → Keeps old new holding.journal holding.area [] before (after_account_event before (event_at k m e [])) result)
+      → Keeps old new holding.journal holding.area [] before (after_all before (its event)) result
+  some_keeps old new holding before None e result there is keeps = absurd (cc there)
+  some_keeps old new holding before (Some event) e result there is keeps =
+      let same : e ≡ event = cc in
+      subst (λ (x : Event). Keeps old new holding.journal holding.area [] before (after_account_event before (event_at k m x [])) result) same
+      (keeps (subst (λ (x : Event). IsEventOf before.accounts holding.accounts (event_at k m x []) freed) (sym same) is.1))
+
+  pub none_grows : (holding : Holding) (event : Option Event) → event ≡ None → GrowsBy holding.journal (room_of (its event)) (Ok holding)
+  none_grows holding None none = grows_not holding
+  none_grows holding (Some event) none = absurd (cc none)
+
+  pub some_grows : (journal : Journal) (event : Option Event) (e : Event) (result : Result Holding StoreFault) → event ≡ Some e
+      → Lengthens journal (record_room (event_at k m e []) []) result → GrowsBy journal (room_of (its event)) result
+  some_grows journal None e result there lengthens = absurd (cc there)
+  some_grows journal (Some event) e result there lengthens =
+      let same : e ≡ event = cc in
+      subst (λ (x : Event). GrowsBy journal (room_of (event_at k m x [] ∷ [])) result) same (grows_once journal (event_at k m e []) result lengthens)
