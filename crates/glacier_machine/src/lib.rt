@@ -27,7 +27,7 @@ pub use content_hash::MOST_BODY;
 pub use glacier_replies::{bad_head_refusal, refusal_reply};
 pub use job_steps::{begin_job, describe_job};
 pub use moments::pass;
-pub use outputs::job_output;
+pub use outputs::{job_output, stored_archive};
 pub use replaying::{Replayed, replay};
 pub use requests::request_of;
 pub use routes::{Op, Route, RouteStep};

@@ -17,7 +17,11 @@ use glacier_vault::{AccountState, Archive, Change, Work};
 use std::alloc::Global;
 
 /// The archive of a number in a vault, live or held.
-fn stored_archive<'a>(state: &'a AccountState, name: &VaultName, number: u64) -> Option<&'a Archive>
+pub fn stored_archive<'a>(
+    state: &'a AccountState,
+    name: &VaultName,
+    number: u64,
+) -> Option<&'a Archive>
     ensures { option_copied result ≡ archive_stored state.now name.now number }
 {
     let vault = state.vaults.get(name)?;

@@ -7,6 +7,7 @@ pub mod EventOfLemmas
 pub mod HeldLemmas
 pub mod KeepsLemmas
 pub mod OpenLemmas
+pub mod OutputLemmas
 pub mod PlaceLemmas
 pub mod RecordLengths
 pub mod RecoverLemmas

@@ -1,7 +1,7 @@
 // Bodies of a holding: they stream into free blocks, and are read from theirs.
-ghost use Rattle.std.specs.Prelude.{◌≡◌, ◌≤◌, ◌<◌, ◌+◌, ◌*◌, ◌%◌, ◌++◌, ℕ, List as Items, [], true, IsTrue, IfOk, OnOk, OnErr, length, take, drop};
+ghost use Rattle.std.specs.Prelude.{◌≡◌, ◌≤◌, ◌<◌, ◌+◌, ◌%◌, ◌++◌, ℕ, List as Items, [], true, IsTrue, IfOk, OnOk, OnErr, length, take, drop};
 ghost use Rattle.std.specs.Int.{div_ceil};
-ghost use Rattle.glacier_bodies.specs.BlobAreas.{IsOpen, bytes_of, runs_of};
+ghost use Rattle.glacier_bodies.specs.BlobAreas.{IsOpen, bytes_of};
 ghost use Rattle.glacier_bodies.specs.Blobs.{Holds};
 ghost use Rattle.glacier_bodies.specs.Bodies.{HasTaken, Takes, body_room, body_runs, body_taken};
 ghost use Rattle.glacier_bodies.specs.Calls.{BlobCall};
@@ -105,8 +105,6 @@ impl Holding {
         into: &mut [u8],
     ) -> Result<(), Failed>
         requires open { (D.told disk.old).opened ≡ true }
-        requires room { at + length into.old ≤
-            block_count (runs_of self.now.area.blobs account.now blobs.now) * BLOCK }
 
         ensures bytes { IsTrue D.tells → (state : State) (size : ℕ) (leaves : Items (Items ℕ)) →
             IsHeldBy (D.told disk.old) self.now.journal self.now.area.blobs state →
