@@ -1,5 +1,5 @@
 -- Which blocks are free and which are a blob's, when bodies begin and end.
-use Rattle.std.specs.Prelude.{◌≡◌, ◌⊎◌, ℕ, ◌+◌, Bool, true, false, ◌&&◌, ◌||◌, not, List, [], ◌∷◌, Some, None, option_and_then}
+use Rattle.std.specs.Prelude.{◌≡◌, ◌⊎◌, ℕ, ◌+◌, Bool, true, false, ◌&&◌, ◌||◌, not, List, [], Some, None, option_and_then}
 use Rattle.std.specs.Prelude.{Result, OnOk, OnErr}
 use Rattle.std.specs.declared.result.Result.TheVariants.{Ok, Err}
 use Rattle.std.specs.Cmp.Lexicographic.{slice_cmp}
@@ -10,8 +10,7 @@ use Rattle.glacier_extents.specs.declared.run.Run.{Run}
 use Rattle.glacier_extents.specs.FreeRuns.{blocks, AllIn, Claims}
 use Rattle.glacier_extents.specs.Runs.{has_block, block_count, AreRuns, AreDistinct}
 use Rattle.glacier_extents.proofs.FreeLemmas.{no_both}
-use Rattle.glacier_extents.proofs.RunLemmas.{none_below}
-use Rattle.glacier_extents.proofs.TakenLemmas.{run_bounds}
+use Rattle.glacier_extents.proofs.CountLemmas.{distinct_runs}
 use Rattle.glacier_bodies.specs.BlobAreas.{IsSound, IsOpen, Releases, with_blob, without_blob}
 use Rattle.glacier_bodies.specs.Blobs.{IsApart}
 use Rattle.glacier_bodies.specs.Stands.{Layouts, at_blob, IsUnnamed}
@@ -40,16 +39,6 @@ and_first false b x = refl
 and_not : (a b : Bool) → b ≡ true → (a && not b) ≡ false
 and_not true b x = ap not x
 and_not false b x = refl
-
--- runs with a block between any two have no block twice
-pub distinct_runs : (low high : ℕ) (runs : List Run) → AreRuns low high runs → AreDistinct high runs
-distinct_runs low high [] are = tt
-distinct_runs low high (run ∷ runs) are = (
-  are.1,
-  are.2,
-  λ b its. none_below (run.first + run.count + 1) high b runs are.3 (omega (arith, (run_bounds run b its).1)),
-  distinct_runs (run.first + run.count + 1) high runs are.3,
-)
 
 no_blob : {X : Type 0} (P : Type 0) (x : X) → None ≡ Some x → P
 no_blob P x e = cc

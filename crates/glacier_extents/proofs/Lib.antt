@@ -6,3 +6,4 @@ pub mod SetLemmas
 pub mod MarkLemmas
 pub mod ClaimLemmas
 pub mod ClaimedLemmas
+pub mod CountLemmas

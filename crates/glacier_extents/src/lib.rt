@@ -6,6 +6,7 @@ mod access;
 mod blocks;
 mod claiming;
 mod free_runs;
+pub mod laws;
 mod marking;
 mod run;
 

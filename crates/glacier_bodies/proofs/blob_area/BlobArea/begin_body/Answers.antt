@@ -6,7 +6,8 @@ use Rattle.glacier_treehash.proofs.LeavesLemmas.{digests-none}
 use Rattle.glacier_bodies.specs.BlobAreas.{AreaState, IsSound, IsOpen}
 use Rattle.glacier_bodies.specs.Blobs.{IsApart}
 use Rattle.glacier_extents.specs.FreeRuns.{blocks}
-use Rattle.glacier_bodies.proofs.SoundLemmas.{distinct_runs, sound_fewer, fewer, open_claimed, open_still}
+use Rattle.glacier_extents.proofs.CountLemmas.{distinct_runs}
+use Rattle.glacier_bodies.proofs.SoundLemmas.{sound_fewer, fewer, open_claimed, open_still}
 use Rattle.glacier_bodies.proofs.blob_area.BlobArea.begin_body.Goals as goal
 
 pub of-requires-clause-distinct : goal.of-requires-clause-distinct
