@@ -16,7 +16,7 @@ const MIB: u64 = 1_048_576;
 type Row = (u64, Past, Option<&'static [u64]>, [u64; 4]);
 
 /// A vault, an archive, and uploads that are completed and aborted.
-const UPLOADS: [Row; 22] = [
+static UPLOADS: [Row; 22] = [
     (0, Past::Upload(3), None, [0, 0, 0, 0]),
     (0, Past::CreateVault("v"), Some(&[]), [0, 0, 0, 0]),
     (0, Past::CreateVault("v"), None, [0, 0, 0, 0]),
@@ -42,7 +42,7 @@ const UPLOADS: [Row; 22] = [
 ];
 
 /// Jobs, and archives that are deleted behind them.
-const JOBS: [Row; 15] = [
+static JOBS: [Row; 15] = [
     (0, Past::BeginRetrieval(0, 0, 4), None, [3, 0, 0, 9]),
     (0, Past::BeginRetrieval(0, 3, 3), None, [3, 0, 0, 9]),
     (0, Past::BeginRetrieval(0, 0, 3), Some(&[]), [3, 0, 1, 10]),
@@ -67,7 +67,7 @@ const JOBS: [Row; 15] = [
 ];
 
 /// Locks in another vault, and the deletion of vaults.
-const LOCKS: [Row; 16] = [
+static LOCKS: [Row; 16] = [
     (86_701, Past::InitiateLock("w", true), None, [0, 0, 0, 13]),
     (86_701, Past::CreateVault("w"), Some(&[]), [0, 0, 0, 13]),
     (86_701, Past::InitiateLock("w", false), None, [0, 0, 0, 13]),
@@ -97,7 +97,7 @@ const LOCKS: [Row; 16] = [
 ];
 
 /// A vault whose archive is held is deleted, and with it the archive.
-const HELD: [Row; 6] = [
+static HELD: [Row; 6] = [
     (0, Past::CreateVault("v"), Some(&[]), [0, 0, 0, 0]),
     (0, Past::Upload(MIB + 1), Some(&[]), [2, 0, 0, 1]),
     (0, Past::BeginRetrieval(0, 0, 3), Some(&[]), [2, 0, 1, 2]),
