@@ -16,7 +16,7 @@ use Rattle.glacier_vault.specs.declared.archive.Archive.{Archive}
 use Rattle.glacier_vault.specs.declared.state.AccountState.{AccountState}
 use Rattle.glacier_vault.specs.declared.state.VaultState.{VaultState}
 use Rattle.glacier_replay.specs.Standing.{InAccount, InVault, IsTold, Stands}
-use Rattle.glacier_replay.specs.Accounts.{account_in}
+use Rattle.glacier_vault.specs.Accounts.{account_in}
 use Rattle.glacier_replay.specs.Changes.{State}
 use Rattle.glacier_store.specs.Outputs.{archive_bytes, between, stretch_bytes}
 

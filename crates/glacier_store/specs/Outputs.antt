@@ -4,7 +4,7 @@ use Rattle.glacier_bodies.specs.BlobAreas.{bytes_of}
 use Rattle.glacier_machine.specs.JobSteps.{stored_archive}
 use Rattle.glacier_machine.specs.declared.action.Stretch.{Stretch}
 use Rattle.glacier_vault.specs.declared.archive.Archive.{Archive}
-use Rattle.glacier_replay.specs.Accounts.{Accounts, account_in}
+use Rattle.glacier_vault.specs.Accounts.{Accounts, account_in}
 use Rattle.glacier_replay.specs.Changes.{State}
 
 -- the bytes of an archive of an account, which are those of its blobs, one after another; none where there is no archive

@@ -3,7 +3,7 @@ ghost use Rattle.std.specs.Prelude.{◌≡◌, ◌-◌, ℕ, List, length, take,
 ghost use Rattle.glacier_disk.specs.Image.{Image};
 ghost use Rattle.glacier_machine.specs.Outputs.{IsOutputOf};
 ghost use Rattle.glacier_machine.specs.declared.action.Stretch.{Stretch};
-ghost use Rattle.glacier_replay.specs.Accounts.{account_in};
+ghost use Rattle.glacier_vault.specs.Accounts.{account_in};
 ghost use Rattle.glacier_replay.specs.Changes.{State};
 ghost use Rattle.glacier_replay.specs.Standing.{Stands};
 ghost use Rattle.glacier_store.specs.Outputs.{between, stretch_bytes};

@@ -1,7 +1,7 @@
 use Rattle.std.proofs.Common.{◌≡◌, ◌≤◌, ◌<◌, ℕ, ◌+◌, ◌-◌, min, List, Some, length, take, drop, refl, sym, ◌∙◌, ap, subst, arith}
 use Rattle.glacier_bodies.specs.BlobAreas.{bytes_of}
 use Rattle.glacier_disk.specs.Told.{Lawful}
-use Rattle.glacier_replay.specs.Accounts.{account_in}
+use Rattle.glacier_vault.specs.Accounts.{account_in}
 use Rattle.glacier_replay.specs.Standing.{IsTold}
 use Rattle.glacier_store.specs.Outputs.{archive_in, archive_bytes}
 use Rattle.glacier_store.proofs.OutputLemmas.{of_stored, stretch_read}
