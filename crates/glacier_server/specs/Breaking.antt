@@ -1,22 +1,22 @@
 -- Why the server broke off, and what was done for the last message.
-use Rattle.std.specs.Prelude.{◌≡◌, ℕ, ◌+◌, ◌^◌, ◌<◌, List, [], ◌∷◌, ◌++◌, Result, Ok, Err}
+use Rattle.std.specs.Prelude.{◌≡◌, ℕ, List, [], ◌++◌, Option, Some, None, Result, Ok, Err}
 use Rattle.glacier_base.specs.Outside.{HasRisen}
 use Rattle.glacier_disk.specs.Network.{wait_of}
 use Rattle.glacier_disk.specs.Told.{Told}
-use Rattle.glacier_http.specs.Messages.{Message}
 use Rattle.glacier_machine.specs.declared.config.Config.{Config}
 use Rattle.glacier_server.specs.declared.end.ServeFault.{ServeFault}
 use Rattle.glacier_server.specs.declared.end.ServeFault.TheVariants.{Disk, Memory, JournalEnd, Accept}
 use Rattle.glacier_server.specs.Acts.{Act, bytes_of, events_in}
-use Rattle.glacier_server.specs.Does.{breaking}
+use Rattle.glacier_server.specs.Does.{Grew, breaking}
 use Rattle.glacier_server.specs.Exchange.{Standing, exchange_on, AnswersPart, Idles}
-use Rattle.glacier_server.specs.Machine.{happened}
-use Rattle.glacier_server.specs.Out.{out, interim}
+use Rattle.glacier_server.specs.Out.{run, out}
+use Rattle.glacier_server.specs.Rooms.{EndsJournal}
 use Rattle.glacier_server.specs.Served.{AnsweredPart, Part, IsPrompt}
-use Rattle.glacier_server.specs.Session.{Session, HeldWaiting}
+use Rattle.glacier_server.specs.Session.{Session, HeldWaiting, IsFront}
 use Rattle.glacier_server.specs.Transfer.{Transfer, current}
-use Rattle.glacier_store.specs.Events.{room_of}
+use Rattle.glacier_server.specs.Turns.{Turn, turn_events, turn_interim, turn_passed}
 use Rattle.glacier_store.specs.declared.store.Store.{Store}
+use Rattle.glacier_vault.specs.Accounts.{Accounts}
 
 -- what broke a connection off, by the count of the disk's faults: no accept did
 abbrev pub HasBroken : ServeFault → Told → Told → Type 0
@@ -30,60 +30,47 @@ abbrev pub ShowsDisk : {T : Type 0} → Result T ServeFault → Told → Told �
 ShowsDisk (Ok x) old new = new.disk_faults ≡ old.disk_faults
 ShowsDisk (Err fault) old new = HasBroken fault old new
 
--- what was done for a message at a reading, from this store, before the server broke off: nothing for want of memory,
--- and else no byte of its reply was sent; the journal was at its end where the message has events, and they have no
--- room
-abbrev pub BrokenFor : Config → Store → Message → ℕ → List Act → ServeFault → Type 0
-BrokenFor config store m reading acts Disk = bytes_of acts ≡ interim m
-BrokenFor config store m reading acts Memory = acts ≡ []
-BrokenFor config store m reading acts (JournalEnd length) = (bytes_of acts ≡ interim m)
-    × (length ≡ store.journal.length)
-    × (2 ^ 62 < length + room_of (happened config store.accounts m reading))
-    × (0 < room_of (happened config store.accounts m reading))
-BrokenFor config store m reading acts Accept = ⊥
+-- no byte of the reply to a turn is among these acts: at most those of its interim line are
+abbrev pub NoReplyTo : Config → Accounts → Turn → ℕ → List Act → Type 0
+NoReplyTo config state turn reading acts = IsFront (bytes_of acts) (turn_interim config state turn reading)
 
--- they took the message that stands there, and the server broke off before its reply
+-- what was done for a turn at a reading, from this store, before the server broke off: no byte of its reply was sent;
+-- for want of memory no event was kept but of time that passes, and where the journal was at its end, there was no room
+-- for the next of its events
+abbrev pub BrokenFor : Config → Store → Turn → ℕ → List Act → ServeFault → Type 0
+BrokenFor config store turn reading acts Disk = NoReplyTo config store.accounts turn reading acts
+BrokenFor config store turn reading acts Memory = NoReplyTo config store.accounts turn reading acts
+    × IsFront (events_in acts) (turn_passed config store.accounts turn reading)
+BrokenFor config store turn reading acts (JournalEnd length) = NoReplyTo config store.accounts turn reading acts
+    × EndsJournal store (turn_events config store.accounts turn reading) length
+BrokenFor config store turn reading acts Accept = ⊥
+
+-- they took what stands there, and the server broke off before its reply
 pub record BreaksOff (config : Config) (from : Standing) (old new : Told) (fault : ServeFault) : Type 0 where
   pub session : Session
   pub starts : session.before ≡ from.store
   pub transfer : Transfer old new session breaking
   pub part : AnswersPart config (exchange_on from [] [] session)
-  pub broken : BrokenFor config from.store part.message part.reading session.acts fault
+  pub broken : BrokenFor config from.store part.turn part.reading session.acts fault
   pub idle : HeldWaiting (wait_of (current old.connections)) session
-      (λ till. Idles (exchange_on from [] [] till))
+      (λ till. Idles config (exchange_on from [] [] till))
 
--- nothing was done for the last of these messages, if there is one
-abbrev pub NothingForLast : (config : Config) (s : Session) → AnsweredPart config s → Type 0
-NothingForLast config s part = (front : List Message) (m : Message) → part.messages ≡ front ++ m ∷ []
-    → s.acts ≡ out config 0 s.before.accounts front s.readings
+-- the same where there may be no turn: only memory was wanting then, and nothing was done
+abbrev pub LastBroken : Config → Store → Option (Turn × ℕ) → List Act → ServeFault → Type 0
+LastBroken config store None acts fault = (fault ≡ Memory) × (acts ≡ [])
+LastBroken config store (Some last) acts fault = BrokenFor config store last.0 last.1 acts fault
 
--- there is a last one, and no byte of the reply to it was sent
-pub record NoReplyToLast (config : Config) (s : Session) (part : AnsweredPart config s) : Type 0 where
-  pub front : List Message
-  pub last : Message
-  pub messages : part.messages ≡ front ++ last ∷ []
-  pub silent : bytes_of s.acts ≡ bytes_of (out config 0 s.before.accounts front s.readings) ++ interim last
+-- what was done for the last turn, and why, before the server broke off, from the store that the messages before it left
+pub record BrokenBy (config : Config) (s : Session) (part : AnsweredPart config s) (fault : ServeFault) : Type 0 where
+  pub store : Store
+  pub state : store.accounts ≡ run config s.before.accounts part.messages s.readings
+  pub grew : Grew s.before store (out config 0 s.before.accounts part.messages s.readings)
+  pub acts : List Act
+  pub behind : s.acts ≡ out config 0 s.before.accounts part.messages s.readings ++ acts
+  pub broken : LastBroken config store part.last acts fault
 
--- nor has the journal, of this length behind the events of the messages before it, room for its events, of which there
--- are some
-pub record NoRoomForLast (config : Config) (s : Session) (part : AnsweredPart config s) (end : ℕ) : Type 0 where
-  pub unanswered : NoReplyToLast config s part
-  pub at : end ≡ s.before.journal.length
-      + room_of (events_in (out config 0 s.before.accounts unanswered.front s.readings))
-  pub full : 2 ^ 62 < s.before.journal.length
-      + room_of (events_in (out config 0 s.before.accounts part.messages s.readings))
-  pub grows : room_of (events_in (out config 0 s.before.accounts unanswered.front s.readings))
-      < room_of (events_in (out config 0 s.before.accounts part.messages s.readings))
-
--- what was done for it, and why, before the server broke off
-abbrev pub BrokenBy : (config : Config) (s : Session) → AnsweredPart config s → ServeFault → Type 0
-BrokenBy config s part Disk = NoReplyToLast config s part
-BrokenBy config s part Memory = NothingForLast config s part
-BrokenBy config s part (JournalEnd end) = NoRoomForLast config s part end
-BrokenBy config s part Accept = ⊥
-
--- the server broke off: on the last connection all was done for the messages before the last, and for that what the
--- fault says
+-- the server broke off: on the last connection all was done for the messages before the last turn, and for that what
+-- the fault says
 pub record PartLast (config : Config) (old new : Told) (store : Store) (fault : ServeFault) : Type 0 where
   pub session : Session
   pub starts : session.before ≡ store

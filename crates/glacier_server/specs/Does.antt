@@ -1,9 +1,9 @@
 -- What is done in a stretch of calls, to the store and to what was sent.
-use Rattle.std.specs.Prelude.{◌≡◌, ◌+◌, List}
+use Rattle.std.specs.Prelude.{◌≡◌, List}
 use Rattle.glacier_disk.specs.Network.{sent_on}
 use Rattle.glacier_disk.specs.Told.{Told}
 use Rattle.glacier_server.specs.Acts.{Act, events_in, sent_by, after_acts, StopsAmid}
-use Rattle.glacier_store.specs.Events.{room_of}
+use Rattle.glacier_server.specs.Rooms.{GrewBy}
 use Rattle.glacier_store.specs.Stands.{Kept}
 use Rattle.glacier_store.specs.declared.store.Store.{Store}
 
@@ -24,7 +24,7 @@ StillKept breaking told store = Unit {0}
 
 -- the journal grew by the events of these acts
 abbrev pub Grew : Store → Store → List Act → Type 0
-Grew before after acts = after.journal.length ≡ before.journal.length + room_of (events_in acts)
+Grew before after acts = GrewBy before.journal.length after.journal.length (events_in acts)
 
 -- it did, unless the server broke off
 abbrev pub StillGrew : Failing → Store → Store → List Act → Type 0

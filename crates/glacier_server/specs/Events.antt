@@ -1,13 +1,14 @@
 -- What a message's call of the store does.
-use Rattle.std.specs.Prelude.{◌≡◌, ℕ, ◌+◌, ◌<◌, ◌^◌, List, Result, IfOk, IsErrOf}
+use Rattle.std.specs.Prelude.{◌≡◌, ℕ, List, ◌++◌, take, Result, IfOk, IsErrOf}
+use Rattle.glacier_disk.specs.Image.{Image}
+use Rattle.glacier_disk.specs.Moments.{LeavesOnly}
 use Rattle.glacier_disk.specs.Told.{Told}
-use Rattle.glacier_machine.specs.Outcomes.{after_all}
-use Rattle.glacier_vault.specs.Accounts.{AccountEvent}
+use Rattle.glacier_machine.specs.Outcomes.{Outcome, after_all}
+use Rattle.glacier_vault.specs.Accounts.{Accounts, AccountEvent}
 use Rattle.glacier_server.specs.declared.end.ServeFault.{ServeFault}
 use Rattle.glacier_server.specs.declared.end.ServeFault.TheVariants.{Disk, Memory, JournalEnd}
-use Rattle.glacier_store.specs.Changes.{Changes, Stays}
-use Rattle.glacier_store.specs.Events.{room_of}
-use Rattle.glacier_store.specs.Stands.{Kept}
+use Rattle.glacier_server.specs.Rooms.{GrewBy, EndsJournal}
+use Rattle.glacier_store.specs.Stands.{Kept, Stands}
 use Rattle.glacier_store.specs.declared.fault.StoreFault.{StoreFault}
 use Rattle.glacier_store.specs.declared.fault.StoreFault.TheVariants as store
 use Rattle.glacier_store.specs.declared.store.Store.{Store}
@@ -28,14 +29,27 @@ IsFault (store.NotAJournal area at) fault = ⊥
 IsFault (store.NotEmpty area size) fault = ⊥
 IsFault (store.End length) fault = fault ≡ JournalEnd length
 
--- The events are kept, or the server breaks off. A crash meanwhile leaves the state before them or after them, and for
--- want of memory the one before them; the journal was at its end where there are some and they have no room.
-pub record KeepsEvents {T : Type 0} (old new : Told) (store : Store) (events : List AccountEvent)
+-- an image stands for the state after some first ones of these events
+pub record StandsForFirst (state : Accounts) (events : List AccountEvent) (i : Image) : Type 0 where
+  pub count : ℕ
+  pub stands : Stands i (after_all state (take count events))
+
+-- at each moment since the start a crash leaves the state after some first ones of them
+abbrev pub KeepsFirst : Told → Told → Accounts → List AccountEvent → Type 0
+KeepsFirst old new state events = LeavesOnly old new (StandsForFirst state events)
+
+-- The events of the time that passed are kept, and then those of what is done, or the server breaks off. A crash
+-- meanwhile leaves the state after some first ones. For want of memory none of what is done is kept, and where the
+-- journal was at its end, there was no room for the event behind those that were kept.
+pub record KeepsEvents {T : Type 0} (old new : Told) (store : Store) (passed done : List AccountEvent)
     (result : Result (T × Store) ServeFault) : Type 0 where
-  pub accounts : IfOk result (λ done. done.1.accounts ≡ after_all store.accounts events)
-  pub grew : IfOk result (λ done. done.1.journal.length ≡ store.journal.length + room_of events)
-  pub any_moment : Kept old store → Changes old new store.accounts (after_all store.accounts events)
-  pub kept : Kept old store → IfOk result (λ done. Kept new done.1)
-  pub memory : Kept old store → IsErrOf result Memory → Stays old new store.accounts
-  pub end : (length : ℕ) → IsErrOf result (JournalEnd length)
-      → (length ≡ store.journal.length) × (2 ^ 62 < length + room_of events) × (0 < room_of events)
+  pub accounts : IfOk result (λ r. r.1.accounts ≡ after_all store.accounts (passed ++ done))
+  pub grew : IfOk result (λ r. GrewBy store.journal.length r.1.journal.length (passed ++ done))
+  pub any_moment : Kept old store → KeepsFirst old new store.accounts (passed ++ done)
+  pub kept : Kept old store → IfOk result (λ r. Kept new r.1)
+  pub memory : Kept old store → IsErrOf result Memory → KeepsFirst old new store.accounts passed
+  pub end : (length : ℕ) → IsErrOf result (JournalEnd length) → EndsJournal store (passed ++ done) length
+
+-- the events of an outcome are kept so
+abbrev pub KeepsOutcome : {T : Type 0} → Told → Told → Store → Outcome → Result (T × Store) ServeFault → Type 0
+KeepsOutcome old new store outcome result = KeepsEvents old new store outcome.passed outcome.done result

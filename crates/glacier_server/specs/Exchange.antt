@@ -10,13 +10,14 @@ use Rattle.glacier_http.specs.Messages.{Message, Begins, BeginsNone, InputEnd, c
 use Rattle.glacier_machine.specs.declared.config.Config.{Config}
 use Rattle.glacier_server.specs.declared.end.End.{End}
 use Rattle.glacier_server.specs.declared.end.End.TheVariants.{Closed, Cut, Refused, Bound, ReadFault, SendFault}
-use Rattle.glacier_server.specs.Acts.{Act}
+use Rattle.glacier_server.specs.Acts.{Act, after_acts}
 use Rattle.glacier_server.specs.Does.{Failing, nothing, breaking}
 use Rattle.glacier_server.specs.Machine.{after}
 use Rattle.glacier_server.specs.Out.{told, Tells}
 use Rattle.glacier_server.specs.Served.{failing_of}
 use Rattle.glacier_server.specs.Session.{Session, HeldWaiting}
 use Rattle.glacier_server.specs.Transfer.{Transfer, current}
+use Rattle.glacier_server.specs.Turns.{Turn, IsNext, turn_acts}
 use Rattle.glacier_vault.specs.Accounts.{Accounts}
 use Rattle.glacier_store.specs.declared.store.Store.{Store}
 
@@ -101,35 +102,35 @@ pub record Answers (config : Config) (x : Exchange) (last : Option InputEnd) : T
   pub all : x.acts ≡ told config x.count x.before message reading
   pub after_it : x.after ≡ after config x.before message reading
 
--- a first part of what is done for a message that stands there
+-- a first part of what is done for a turn that stands there
 pub record AnswersPart (config : Config) (x : Exchange) : Type 0 where
-  pub message : Message
+  pub turn : Turn
   pub reading : ℕ
   pub rest : List ℕ
-  pub begins : Begins x.input message rest
+  pub next : IsNext x.input turn rest
   pub one : x.readings ≡ reading ∷ []
   pub count : ℕ
-  pub part : x.acts ≡ take count (told config x.count x.before message reading)
+  pub part : x.acts ≡ take count (turn_acts config x.count x.before turn reading)
 
 -- the input begins with no message, and all was done that is to be done before one is whole
-pub record Idles (x : Exchange) : Type 0 where
+pub record Idles (config : Config) (x : Exchange) : Type 0 where
   pub none : BeginsNone x.input
-  pub same : x.after ≡ x.before
-  pub tells : Tells x.input x.readings x.acts
+  pub same : x.after ≡ after_acts x.before x.acts
+  pub tells : Tells config x.before x.input x.readings x.acts
   pub read : x.readings ≡ [] → (h : RequestHead) (more : List ℕ) → ¬ (BeginsHead x.input h more)
 
 -- the input ended where no message is whole
-abbrev pub EndsIdle : Exchange → InputEnd → Type 0
-EndsIdle x end = Idles x × (end ≡ end_of_rest x.input) × (x.coming ≡ [])
+abbrev pub EndsIdle : Config → Exchange → InputEnd → Type 0
+EndsIdle config x end = Idles config x × (end ≡ end_of_rest x.input) × (x.coming ≡ [])
 
 -- what became of the input: one message more was answered, or the connection ends
 abbrev pub IsExchange : Config → Exchange → Option End → Type 0
 IsExchange config x None = (a : Answers config x None) × (a.rest ≡ x.left)
-IsExchange config x (Some Closed) = Answers config x (Some closed) ⊎ EndsIdle x closed
-IsExchange config x (Some (Cut taken)) = EndsIdle x (cut taken)
+IsExchange config x (Some Closed) = Answers config x (Some closed) ⊎ EndsIdle config x closed
+IsExchange config x (Some (Cut taken)) = EndsIdle config x (cut taken)
 IsExchange config x (Some Refused) = Answers config x (Some refused)
 IsExchange config x (Some Bound) = Answers config x (Some bound)
-IsExchange config x (Some ReadFault) = Idles x
+IsExchange config x (Some ReadFault) = Idles config x
 IsExchange config x (Some SendFault) = AnswersPart config x
 
 -- calls on the last connection made an exchange, and at each wait nothing was due
@@ -142,4 +143,4 @@ pub record Exchanges (config : Config) (from to : Standing) (old new : Told) (en
   pub exchange : IsExchange config
       (exchange_on from to.unread (current new.connections).coming session) end
   pub idle : HeldWaiting (wait_of (current old.connections)) session
-      (λ till. Idles (exchange_on from [] [] till))
+      (λ till. Idles config (exchange_on from [] [] till))

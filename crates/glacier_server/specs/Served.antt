@@ -1,5 +1,5 @@
 -- What was done on a connection for the bytes that were taken on it.
-use Rattle.std.specs.Prelude.{◌≡◌, ℕ, ◌≤◌, ◌⊎◌, List, [], ◌∷◌, ◌++◌, length, drop, Option, Some, None, Result, Ok, Err}
+use Rattle.std.specs.Prelude.{◌≡◌, ℕ, ◌≤◌, ◌⊎◌, List, [], ◌∷◌, ◌++◌, length, take, drop, Option, Some, None, Result, Ok, Err}
 use Rattle.httparse.specs.Grammar.{RequestHead}
 use Rattle.glacier_disk.specs.Network.{Wait, wait_of}
 use Rattle.glacier_disk.specs.Told.{Told}
@@ -13,6 +13,7 @@ use Rattle.glacier_server.specs.Does.{Failing, nothing, receiving, sending, brea
 use Rattle.glacier_server.specs.Out.{run, out, Tells}
 use Rattle.glacier_server.specs.Session.{Session, HeldWaiting}
 use Rattle.glacier_server.specs.Transfer.{Transfer, current}
+use Rattle.glacier_server.specs.Turns.{Turn, IsNextOf, readings_for, acts_for}
 use Rattle.glacier_vault.specs.Accounts.{Accounts}
 use Rattle.glacier_store.specs.declared.store.Store.{Store}
 
@@ -23,9 +24,10 @@ pub record Runs (config : Config) (s : Session) (last : Option InputEnd) : Type 
   pub hears : Hears 0 s.taken messages rest last
   pub enough : length messages ≤ length s.readings
   pub interim : List Act
-  pub tells : Tells rest (drop (length messages) s.readings) interim
+  pub tells : Tells config (run config s.before.accounts messages s.readings) rest
+      (drop (length messages) s.readings) interim
   pub all : s.acts ≡ out config 0 s.before.accounts messages s.readings ++ interim
-  pub after_them : s.after.accounts ≡ run config s.before.accounts messages s.readings
+  pub after_them : s.after.accounts ≡ after_acts (run config s.before.accounts messages s.readings) interim
 
 -- the last message made the end, with one reading for each message
 pub record EndsLast (config : Config) (s : Session) (end : InputEnd) : Type 0 where
@@ -54,7 +56,7 @@ pub record IsOut (config : Config) (taken readings : List ℕ) (state : Accounts
   pub end : InputEnd
   pub heard : Heard taken messages rest end
   pub interim : List Act
-  pub tells : Tells rest (drop (length messages) readings) interim
+  pub tells : Tells config (run config state messages readings) rest (drop (length messages) readings) interim
   pub acts_are : acts ≡ out config 0 state messages readings ++ interim
 
 -- the same, where each of these messages has its reading
@@ -68,18 +70,19 @@ abbrev pub IsPartOfOut : Config → Session → Type 0
 IsPartOfOut config s =
     (all undone : List Act) × IsOut config s.taken s.readings s.before.accounts all × (all ≡ s.acts ++ undone)
 
--- these messages were run, the first of those heard and each at its reading: all was done for those
--- before the last one, and a first part for that; nothing was done for a later one
+-- all was done for these messages, the first of those heard and each at its reading, and a first part for the turn
+-- that stands behind them, if it has a reading; nothing was done for a later one
 pub record AnsweredPart (config : Config) (s : Session) : Type 0 where
   pub messages : List Message
   pub rest : List ℕ
-  pub last : Option InputEnd
-  pub hears : Hears 0 s.taken messages rest last
-  pub each : length s.readings ≡ length messages
-  pub undone : List Act
-  pub all : out config 0 s.before.accounts messages s.readings ≡ s.acts ++ undone
-  pub answered : (front : List Message) (m : Message) → messages ≡ front ++ m ∷ []
-      → length (out config 0 s.before.accounts front s.readings) ≤ length s.acts
+  pub hears : Hears 0 s.taken messages rest None
+  pub enough : length messages ≤ length s.readings
+  pub last : Option (Turn × ℕ)
+  pub next : IsNextOf rest last
+  pub read : drop (length messages) s.readings ≡ readings_for last
+  pub count : ℕ
+  pub all : s.acts ≡ out config 0 s.before.accounts messages s.readings
+      ++ take count (acts_for config (length messages) (run config s.before.accounts messages s.readings) last)
   pub after_is : s.after.accounts ≡ after_acts s.before.accounts s.acts
 
 abbrev pub Part : Config → Session → Type 0

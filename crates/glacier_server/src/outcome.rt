@@ -1,13 +1,14 @@
 // The machine's outcome of each message.
-ghost use Rattle.std.specs.Prelude.{◌≡◌, ℕ, List, length, IsTrue, true, IfOk, IfErr};
+ghost use Rattle.std.specs.Prelude.{◌≡◌, ◌≤◌, ℕ, List, length, IsTrue, true, IfOk, IfErr};
 ghost use Rattle.glacier_http.specs.Spans.{IsGood};
 ghost use Rattle.glacier_machine.specs.Outcomes.{refusal_outcome, request_outcome, rules_of, one};
 ghost use Rattle.glacier_replies.specs.Messages.{HasAsciiText};
 ghost use Rattle.glacier_replies.specs.Refusals.{head_refusal};
-ghost use Rattle.glacier_machine.specs.SignedRequests.{IsBodyKept};
-ghost use Rattle.glacier_server.specs.Events.{KeepsEvents, IsCallFault, IsFault};
+ghost use Rattle.glacier_machine.specs.SignedRequests.{IsBodyKept, RefusesInAscii};
+ghost use Rattle.glacier_server.specs.Events.{KeepsOutcome, IsCallFault, IsFault};
+ghost use Rattle.glacier_vault.specs.Accounts.{account_in};
 ghost use Rattle.glacier_server.specs.Front.{AtFront};
-ghost use Rattle.glacier_server.specs.Machine.{HasShortNames, IsPrintableIn, told_of, told_head, happened};
+ghost use Rattle.glacier_server.specs.Machine.{HasShortNames, IsPrintableIn, asked_outcome, told_of, told_head};
 ghost use Rattle.glacier_server.specs.Breaking.{ShowsDisk};
 
 use crate::buffers::Buffers;
@@ -60,7 +61,63 @@ fn fault_of(fault: StoreFault) -> ServeFault
 }
 
 impl Service<'_> {
-    /// Does what is requested of an account, and keeps what it changes.
+    /// Does an action on an account at the moment `m`, and keeps what it changes.
+    fn reply_to_action<D: Disk>(
+        &self,
+        disk: &mut D,
+        store: Store,
+        rules: &Rules,
+        m: Moment,
+        action: &Action,
+    ) -> Result<(Reply, Store), ServeFault>
+        requires open { (D.told disk.old).opened ≡ true }
+        requires time { (account_in store.accounts rules.now.account).last ≤ m }
+        ensures reply { IfOk result (λ r. r.0
+            ≡ (asked_outcome rules.now m (Ok action.now) store.accounts).reply) }
+        ensures printable { IfOk result (λ r. IsPrintableIn MOST_HEAD_TEXT r.0) }
+        ensures keeps { IsTrue D.tells → KeepsOutcome (D.told disk.old) (D.told disk.new) store
+            (asked_outcome rules.now m (Ok action.now) store.accounts) result }
+        ensures fault { ShowsDisk result (D.told disk.old) (D.told disk.new) }
+        ensures alone { D.by_disk disk.old disk.new }
+    {
+        names_are_short(rules, action);
+        match store.apply(self.alloc, disk, rules, m, action) {
+            Ok((store, answer)) => Ok((answer.reply, store)),
+            Err(fault) => Err(fault_of(fault)),
+        }
+    }
+
+    /// Does what is asked of an account at the moment `m`, up to which time has passed.
+    fn reply_to_asked<D: Disk>(
+        &self,
+        disk: &mut D,
+        store: Store,
+        rules: &Rules,
+        m: Moment,
+        asked: &Result<Action, Refusal>,
+    ) -> Result<(Reply, Store), ServeFault>
+        requires open { (D.told disk.old).opened ≡ true }
+        requires time { (account_in store.accounts rules.now.account).last ≤ m }
+        requires ascii { IfErr asked.now HasAsciiText }
+        ensures reply { IfOk result (λ r. r.0
+            ≡ (asked_outcome rules.now m asked.now store.accounts).reply) }
+        ensures printable { IfOk result (λ r. IsPrintableIn MOST_HEAD_TEXT r.0) }
+        ensures keeps { IsTrue D.tells → KeepsOutcome (D.told disk.old) (D.told disk.new) store
+            (asked_outcome rules.now m asked.now store.accounts) result }
+        ensures fault { ShowsDisk result (D.told disk.old) (D.told disk.new) }
+        ensures alone { D.by_disk disk.old disk.new }
+    {
+        match asked {
+            Ok(action) => self.reply_to_action(disk, store, rules, m, action),
+            Err(refusal) => match reply_to_refused(self.alloc, refusal) {
+                Ok(reply) => Ok((reply, store)),
+                Err(_) => Err(ServeFault::Memory),
+            },
+        }
+    }
+
+    /// Lets time pass for the account of a request, and does what it asks for. What that changes is
+    /// kept.
     fn reply_to_request<D: Disk>(
         &self,
         disk: &mut D,
@@ -68,24 +125,21 @@ impl Service<'_> {
         request: &Request,
         reading: Moment,
     ) -> Result<(Reply, Store), ServeFault>
-        requires { (D.told disk.old).opened ≡ true }
+        requires open { (D.told disk.old).opened ≡ true }
+        requires ascii { IfErr request.now.asked HasAsciiText }
         ensures reply { IfOk result (λ r. r.0 ≡ (told_of
             (rules_of self.now.config.now request.now.account) store.accounts request.now
             reading).reply) }
         ensures printable { IfOk result (λ r. IsPrintableIn MOST_HEAD_TEXT r.0) }
-        ensures keeps { IsTrue D.tells → KeepsEvents (D.told disk.old) (D.told disk.new) store
+        ensures keeps { IsTrue D.tells → KeepsOutcome (D.told disk.old) (D.told disk.new) store
             (told_of (rules_of self.now.config.now request.now.account) store.accounts request.now
-            reading).events result }
+            reading) result }
         ensures fault { ShowsDisk result (D.told disk.old) (D.told disk.new) }
         ensures alone { D.by_disk disk.old disk.new }
     {
         let rules = self.config.rules(request.account);
-        names_are_short(&rules, &request.action);
         match store.pass(disk, &request.account, reading) {
-            Ok((store, m)) => match store.apply(self.alloc, disk, &rules, m, &request.action) {
-                Ok((store, answer)) => Ok((answer.reply, store)),
-                Err(fault) => Err(fault_of(fault)),
-            },
+            Ok((store, m)) => self.reply_to_asked(disk, store, &rules, m, &request.asked),
             Err(fault) => Err(fault_of(fault)),
         }
     }
@@ -99,12 +153,12 @@ impl Service<'_> {
         reading: Moment,
     ) -> Result<(Reply, Store), ServeFault>
         requires open { (D.told disk.old).opened ≡ true }
-        requires ascii { IfErr request.now HasAsciiText }
+        requires ascii { RefusesInAscii request.now }
         ensures reply { IfOk result (λ r. r.0 ≡ (request_outcome self.now.config.now store.accounts
             request.now reading).reply) }
         ensures printable { IfOk result (λ r. IsPrintableIn MOST_HEAD_TEXT r.0) }
-        ensures keeps { IsTrue D.tells → KeepsEvents (D.told disk.old) (D.told disk.new) store
-            (request_outcome self.now.config.now store.accounts request.now reading).events result }
+        ensures keeps { IsTrue D.tells → KeepsOutcome (D.told disk.old) (D.told disk.new) store
+            (request_outcome self.now.config.now store.accounts request.now reading) result }
         ensures fault { ShowsDisk result (D.told disk.old) (D.told disk.new) }
         ensures alone { D.by_disk disk.old disk.new }
     {
@@ -133,8 +187,8 @@ impl Service<'_> {
             (λ r. r.0 ≡ (told_head self.now.config.now store.accounts head.now body reading).reply) }
         ensures printable { IfOk result (λ r. IsPrintableIn MOST_HEAD_TEXT r.0) }
         ensures keeps { IsTrue D.tells → (body : List ℕ) → length body ≡ size →
-            IsBodyKept kept.now body → KeepsEvents (D.told disk.old) (D.told disk.new) store
-            (told_head self.now.config.now store.accounts head.now body reading).events result }
+            IsBodyKept kept.now body → KeepsOutcome (D.told disk.old) (D.told disk.new) store
+            (told_head self.now.config.now store.accounts head.now body reading) result }
         ensures fault { ShowsDisk result (D.told disk.old) (D.told disk.new) }
         ensures alone { D.by_disk disk.old disk.new }
     {
@@ -161,8 +215,8 @@ impl Service<'_> {
             (λ r. r.0 ≡ (one self.now.config.now store.accounts m reading).reply)) }
         ensures printable { IfOk result (λ r. IsPrintableIn MOST_HEAD_TEXT r.0) }
         ensures keeps { IsTrue D.tells → AtFront buffers.now.unread spans.now kept.now
-            (λ m. KeepsEvents (D.told disk.old) (D.told disk.new) store
-            (happened self.now.config.now store.accounts m reading) result) }
+            (λ m. KeepsOutcome (D.told disk.old) (D.told disk.new) store
+            (one self.now.config.now store.accounts m reading) result) }
         ensures fault { ShowsDisk result (D.told disk.old) (D.told disk.new) }
         ensures alone { D.by_disk disk.old disk.new }
     {
