@@ -1,11 +1,10 @@
 -- Acts one after another.
-use Rattle.std.proofs.Common.{◌≡◌, ℕ, ◌+◌, List, [], ◌∷◌, ◌++◌, refl, sym, ap, ◌∙◌, arith, append_assoc}
+use Rattle.std.proofs.Common.{◌≡◌, ℕ, List, [], ◌∷◌, ◌++◌, refl, sym, ap, ◌∙◌, append_assoc}
 use Rattle.glacier_disk.specs.Network.{on_last}
 use Rattle.glacier_disk.proofs.Connections.{on_last-nil}
 use Rattle.glacier_machine.specs.Outcomes.{after_all, after_account_event}
 use Rattle.glacier_vault.specs.Accounts.{Accounts, AccountEvent}
 use Rattle.glacier_server.specs.Acts.{Act, accept, send, keep, sends, keeps, bytes_of, events_in, sent_by, after_acts}
-use Rattle.glacier_store.specs.Events.{room_of}
 
 -- the parts of acts one after another
 pub bytes_of-append : (first more : List Act) → bytes_of (first ++ more) ≡ bytes_of first ++ bytes_of more
@@ -79,12 +78,3 @@ after-sends state bytes = ap (after_all state) (events_in-sends bytes)
 pub after-keeps : (state : Accounts) (events : List AccountEvent)
     → after_acts state (keeps events) ≡ after_all state events
 after-keeps state events = ap (after_all state) (events_in-keeps events)
-
--- the room that events one after another take
-pub room_of-append : (first more : List AccountEvent) → room_of (first ++ more) ≡ room_of first + room_of more
-room_of-append [] more = omega arith
-room_of-append (h ∷ first) more = omega (arith, room_of-append first more)
-
-pub room-append : (first more : List Act)
-    → room_of (events_in (first ++ more)) ≡ room_of (events_in first) + room_of (events_in more)
-room-append first more = ap room_of (events_in-append first more) ∙ room_of-append (events_in first) (events_in more)

@@ -1,65 +1,97 @@
 -- The events of a message are kept, and its reply is sent.
-use Rattle.std.proofs.Common.{◌≡◌, ℕ, ◌+◌, Bool, List, ◌++◌, length, take, ap, sym, refl, ◌∙◌, Ok, Err}
-use Rattle.std.proofs.lemmas.List.{take-map}
+use Rattle.std.proofs.Common.{◌≡◌, ℕ, ◌+◌, Bool, List, [], ◌++◌, length, take, ap, sym, refl, ◌∙◌, Ok, Err, append-nil, append_assoc}
+use Rattle.std.proofs.lemmas.List.{take-map, map-append}
 use Rattle.std.proofs.Math.Seq.{take-append-add, take-append_seam}
 use Rattle.glacier_disk.specs.Told.{Told, Lawful, ByDisk}
 use Rattle.glacier_http.specs.Messages.{Message}
-use Rattle.glacier_machine.specs.Outcomes.{after_all}
+use Rattle.glacier_machine.specs.Outcomes.{one, after_all}
 use Rattle.glacier_machine.specs.declared.config.Config.{Config}
-use Rattle.glacier_server.specs.Acts.{Act, send, sends, keeps, bytes_of}
+use Rattle.glacier_server.specs.Acts.{Act, keep, send, sends, keeps, bytes_of, events_in}
 use Rattle.glacier_server.specs.declared.end.ServeFault.{ServeFault}
 use Rattle.glacier_server.specs.declared.end.ServeFault.TheVariants.{Disk, Memory, JournalEnd, Accept}
-use Rattle.glacier_server.specs.Events.{KeepsEvents}
-use Rattle.glacier_server.specs.Breaking.{BrokenFor}
-use Rattle.glacier_server.specs.Machine.{reply, happened}
+use Rattle.glacier_server.specs.Events.{KeepsOutcome, KeepsFirst}
+use Rattle.glacier_server.specs.Breaking.{BrokenFor, HasBroken, NoReplyTo}
+use Rattle.glacier_server.specs.Machine.{reply, caused, happened, passed}
 use Rattle.glacier_server.specs.Out.{done, interim}
-use Rattle.glacier_server.specs.Breaking.{HasBroken}
 use Rattle.glacier_server.specs.Session.{acting}
 use Rattle.glacier_server.specs.Transfer.{Transfer, SentAll, SentPart}
+use Rattle.glacier_server.specs.Turns.{whole}
 use Rattle.glacier_server.specs.Does.{nothing, sending, breaking}
-use Rattle.glacier_server.proofs.ActLemmas.{bytes_of-keeps}
-use Rattle.glacier_server.proofs.EventLemmas.{no_interim}
-use Rattle.glacier_server.proofs.StepLemmas.{keeps_all, keeps_some, keeps_none}
+use Rattle.glacier_server.proofs.ActLemmas.{bytes_of-keeps, events_in-keeps}
+use Rattle.glacier_server.proofs.EventLemmas.{done_is, no_interim}
+use Rattle.glacier_server.proofs.StepLemmas.{keeps_all, keeps_some}
 use Rattle.glacier_server.proofs.TransferLemmas.{says, acts_then}
+use Rattle.glacier_store.specs.Stands.{Kept}
 use Rattle.glacier_store.specs.declared.store.Store.{Store}
+use Rattle.glacier_vault.specs.Accounts.{AccountEvent}
 
 module _ (config : Config) (store : Store) (m : Message) (r : ℕ) (close : Bool) where
-  -- a call of the store
+  -- keeping no byte is sent
+  silent : (events : List AccountEvent) (acts : List Act) → acts ≡ keeps events
+      → NoReplyTo config store.accounts (whole m) r acts
+  silent events acts is = (
+    interim config store.accounts m r,
+    ap (λ (l : List ℕ). l ++ interim config store.accounts m r) (sym (ap bytes_of is ∙ bytes_of-keeps events)),
+  )
+
+  -- first ones of its events, and nothing else, are a first part of what is done
+  seam : (first more : List AccountEvent) → happened config store.accounts m r ≡ first ++ more
+      → take (length (keeps first)) (done config store.accounts m r close) ≡ keeps first
+  seam first more is =
+      ap (take (length (keeps first))) (done_is config store.accounts m r close
+      ∙ ap (λ (l : List AccountEvent). keeps l ++ sends (reply config store.accounts m r close)) is
+      ∙ ap (λ (l : List Act). l ++ sends (reply config store.accounts m r close)) (map-append keep first more)
+      ∙ append_assoc (keeps first) (keeps more) (sends (reply config store.accounts m r close)))
+      ∙ take-append_seam (keeps first) (keeps more ++ sends (reply config store.accounts m r close))
+
+  -- calls of the store
   module _ {T : Type 0} {old new : Told} (law : Lawful new) (alone : ByDisk old new) where
-    -- keeps them
-    pub committed : (x : T × Store) → KeepsEvents old new store (happened config store.accounts m r) (Ok x)
+    -- keep them
+    pub committed : (x : T × Store) → KeepsOutcome old new store (one config store.accounts m r) (Ok x)
         → Transfer old new (acting store x.1 (keeps (happened config store.accounts m r))) nothing
+    unfolding happened
     committed x keeps = keeps_all law alone store (happened config store.accounts m r) keeps.any_moment x.1
         keeps.accounts keeps.grew keeps.kept
 
-    -- or breaks the server off, perhaps behind them
-    behind : (fault : ServeFault) → KeepsEvents {T = T} old new store (happened config store.accounts m r) (Err fault)
-        → ((acts : List Act) → bytes_of acts ≡ interim m → BrokenFor config store m r acts fault)
+    -- or break the server off, behind some first ones of these
+    behind : (fault : ServeFault) (first more : List AccountEvent) → happened config store.accounts m r ≡ first ++ more
+        → (Kept old store → KeepsFirst old new store.accounts first)
+        → ((acts : List Act) → acts ≡ keeps first → BrokenFor config store (whole m) r acts fault)
         → (k : ℕ) × (after : Store)
         × Transfer old new (acting store after (take k (done config store.accounts m r close))) breaking
-        × BrokenFor config store m r (take k (done config store.accounts m r close)) fault
-    behind fault x broken =
-        let first = keeps (happened config store.accounts m r) in
-        let after = record store { accounts = after_all store.accounts (happened config store.accounts m r) } in
-        let seam : take (length first) (done config store.accounts m r close) ≡ first =
-        take-append_seam first (sends (reply config store.accounts m r close)) in (
-          length first,
+        × BrokenFor config store (whole m) r (take k (done config store.accounts m r close)) fault
+    behind fault first more is leaves broken =
+        let after = record store { accounts = after_all store.accounts first } in
+        let k = length (keeps first) in
+        let same : take k (done config store.accounts m r close) ≡ keeps first = seam first more is in (
+          k,
           after,
-          says (acting store after first) (take (length first) (done config store.accounts m r close)) (sym seam)
-              (keeps_some law alone store (happened config store.accounts m r) x.any_moment),
-          broken (take (length first) (done config store.accounts m r close)) (ap bytes_of seam
-              ∙ bytes_of-keeps (happened config store.accounts m r) ∙ sym (no_interim m)),
+          says (acting store after (keeps first)) (take k (done config store.accounts m r close)) (sym same)
+              (keeps_some law alone store first leaves),
+          broken (take k (done config store.accounts m r close)) same,
         )
 
     pub broke : (fault : ServeFault) → HasBroken fault old new
-        → KeepsEvents {T = T} old new store (happened config store.accounts m r) (Err fault)
+        → KeepsOutcome {T = T} old new store (one config store.accounts m r) (Err fault)
         → (k : ℕ) × (after : Store)
         × Transfer old new (acting store after (take k (done config store.accounts m r close))) breaking
-        × BrokenFor config store m r (take k (done config store.accounts m r close)) fault
-    broke Disk is x = behind Disk x (λ acts silent. silent)
-    broke Memory is x = (0, store, keeps_none law alone store (λ kept. x.memory kept refl), refl)
+        × BrokenFor config store (whole m) r (take k (done config store.accounts m r close)) fault
+    unfolding happened passed
+    broke Disk is x =
+        behind Disk (happened config store.accounts m r) [] (sym (append-nil _)) x.any_moment
+        (λ acts are. silent (happened config store.accounts m r) acts are)
+    broke Memory is x =
+        behind Memory (passed config store.accounts m r) (caused config store.accounts m r) refl
+        (λ kept. x.memory kept refl)
+        (λ acts are. (
+          silent (passed config store.accounts m r) acts are,
+          [],
+          sym (ap (λ (l : List AccountEvent). l ++ []) (ap events_in are ∙ events_in-keeps (passed config store.accounts m r))
+              ∙ append-nil _),
+        ))
     broke (JournalEnd length) is x =
-        let end = x.end length refl in behind (JournalEnd length) x (λ acts silent. (silent, end.0, end.1, end.2))
+        behind (JournalEnd length) (happened config store.accounts m r) [] (sym (append-nil _)) x.any_moment
+        (λ acts are. (silent (happened config store.accounts m r) acts are, x.end length refl))
     broke Accept is x = absurd is
 
   module _ {old mid now : Told} (after : Store)
@@ -68,19 +100,24 @@ module _ (config : Config) (store : Store) (m : Message) (r : ℕ) (close : Bool
     pub done_all : SentAll mid now text
         → Transfer old now (acting store after (done config store.accounts m r close)) nothing
     done_all sent =
-        acts_then (acting store after (keeps (happened config store.accounts m r))) after
+        says (acting store after (keeps (happened config store.accounts m r) ++ sends
+        (reply config store.accounts m r close))) (done config store.accounts m r close)
+        (sym (done_is config store.accounts m r close))
+        (acts_then (acting store after (keeps (happened config store.accounts m r))) after
         (sends (reply config store.accounts m r close)) kept
         (says (acting after after (sends text)) (sends (reply config store.accounts m r close)) (ap sends same)
-        (sent after))
+        (sent after)))
 
     pub done_part : SentPart mid now text → (k : ℕ)
         × Transfer old now (acting store after (take k (done config store.accounts m r close))) sending
     done_part (n, sent) =
         let first = keeps (happened config store.accounts m r) in
-        let whole = reply config store.accounts m r close in (
+        let whole_text = reply config store.accounts m r close in (
           length first + n,
-          says (acting store after (first ++ sends (take n text))) (take (length first + n) (first ++ sends whole))
+          says (acting store after (first ++ sends (take n text)))
+              (take (length first + n) (done config store.accounts m r close))
               (ap (λ (l : List Act). first ++ l) (ap (λ (l : List ℕ). sends (take n l)) same
-              ∙ sym (take-map send n whole)) ∙ sym (take-append-add first (sends whole) n))
+              ∙ sym (take-map send n whole_text)) ∙ sym (take-append-add first (sends whole_text) n)
+              ∙ ap (take (length first + n)) (sym (done_is config store.accounts m r close)))
               (acts_then (acting store after first) after (sends (take n text)) kept (sent after)),
         )

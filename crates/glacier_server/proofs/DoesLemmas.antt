@@ -9,10 +9,10 @@ use Rattle.glacier_machine.specs.Outcomes.{after_all}
 use Rattle.glacier_vault.specs.Accounts.{Accounts, AccountEvent}
 use Rattle.glacier_server.specs.Acts.{Act, accept, send, sends, keeps, sent_by, after_acts, StopsAfter, StopsAmid}
 use Rattle.glacier_server.specs.Does.{Does, StillGrew, StillKept, Failing, nothing, receiving, sending, breaking}
+use Rattle.glacier_server.specs.Events.{KeepsFirst}
 use Rattle.glacier_server.proofs.ActLemmas.{sent_by-append, sent_by-sends, sent_by-keeps, after_acts-append, after-sends, after-keeps, events_in-sends}
-use Rattle.glacier_server.proofs.StopLemmas.{stops_first, stops_last, sooner, later, grew_same, grew_then}
+use Rattle.glacier_server.proofs.StopLemmas.{stops_first, stops_first_of, stops_last, sooner, later, grew_same, grew_then}
 use Rattle.glacier_server.proofs.KeptLemmas.{still_kept, stands}
-use Rattle.glacier_store.specs.Changes.{Changes, Stays}
 use Rattle.glacier_store.specs.Stands.{Stands, Kept}
 use Rattle.glacier_store.specs.declared.store.Store.{Store}
 
@@ -140,10 +140,10 @@ does_accept {old = old} {new = new} store rests time more = record {
   };
 }
 
--- a call of the store, which leaves the state before the events or after them
+-- calls of the store, which leave the state after some first ones of the events
 pub does_keep : {old new : Told} (store after : Store) (events : List AccountEvent) (failing : Failing) → Lawful new
     → ByDisk old new → after.accounts ≡ after_all store.accounts events → StillGrew failing store after (keeps events)
-    → (Kept old store → Changes old new store.accounts (after_all store.accounts events))
+    → (Kept old store → KeepsFirst old new store.accounts events)
     → (Kept old store → StillKept failing new after) → Does old new store after (keeps events) failing
 does_keep {old = old} {new = new} store after events failing law alone is grew leaves kept = record {
   all_sent = ap sent_on alone.connections ∙ sym (sent_by-keeps events (sent_on old.connections));
@@ -152,35 +152,9 @@ does_keep {old = old} {new = new} store after events failing law alone is grew l
   kept = kept;
   stops = λ was. record {
     later = alone.later;
-    now = λ i now. either i (sent_on new.connections) (ap sent_on alone.connections) ((leaves was).each i
+    now = λ i now. stops_first_of events (ap sent_on alone.connections) ((leaves was).each i
         (law.counts_now old.moment i alone.later now));
-    each = λ since i sent le left. ⊎_elim inl (λ inside. inr (either i sent inside.1 ((leaves was).each i inside.0)))
-        (alone.left since i sent le left);
-  };
-}
-  where
-    either : (i : Image) (sent : List (List ℕ)) → sent ≡ sent_on old.connections
-        → Stands i store.accounts ⊎ Stands i (after_all store.accounts events)
-        → StopsAfter (sent_on old.connections) store.accounts (keeps events) i sent
-    either i sent same stands =
-        ⊎_elim (λ before. stops_first same before)
-        (λ now. stops_last store.accounts (after_all store.accounts events) (keeps events)
-        (sym (after-keeps store.accounts events)) (same ∙ sym (sent_by-keeps events (sent_on old.connections))) now)
-        stands
-
--- or one that leaves the state before them
-pub does_stay : {old new : Told} (store : Store) → Lawful new → ByDisk old new
-    → (Kept old store → Stays old new store.accounts) → Does old new store store [] breaking
-does_stay {old = old} {new = new} store law alone leaves = record {
-  all_sent = ap sent_on alone.connections;
-  after_is = refl;
-  grew = tt;
-  kept = λ kept. tt;
-  stops = λ was. record {
-    later = alone.later;
-    now = λ i now. stops_first (ap sent_on alone.connections) ((leaves was).each i
-        (law.counts_now old.moment i alone.later now));
-    each = λ since i sent le left. ⊎_elim inl (λ inside. inr (stops_first inside.1 ((leaves was).each i inside.0)))
+    each = λ since i sent le left. ⊎_elim inl (λ inside. inr (stops_first_of events inside.1 ((leaves was).each i inside.0)))
         (alone.left since i sent le left);
   };
 }

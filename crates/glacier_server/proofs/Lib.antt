@@ -21,6 +21,7 @@ mod MessageLemmas
 mod OutLemmas
 mod RefuseLemmas
 mod ReplyLemmas
+mod RoomLemmas
 mod RunLemmas
 mod RunOneLemmas
 mod SendLemmas

@@ -13,9 +13,9 @@ use Rattle.glacier_server.specs.Session.{Session, taking, reading, acting}
 use Rattle.glacier_server.specs.Transfer.{Transfer, TakenAt, Takes, SentAll, SentPart, receiving_if, received, Fails, current, others}
 use Rattle.glacier_server.specs.Does.{Does, Failing, nothing, receiving, sending, breaking}
 use Rattle.glacier_server.proofs.ActLemmas.{bytes_of-sends, bytes_of-keeps, events_in-keeps}
-use Rattle.glacier_server.proofs.DoesLemmas.{does_quiet, does_send, does_keep, does_stay}
-use Rattle.glacier_store.specs.Changes.{Changes, Stays}
-use Rattle.glacier_store.specs.Events.{room_of}
+use Rattle.glacier_server.proofs.DoesLemmas.{does_quiet, does_send, does_keep}
+use Rattle.glacier_server.specs.Events.{KeepsFirst}
+use Rattle.glacier_server.specs.Rooms.{GrewBy}
 use Rattle.glacier_store.specs.Stands.{Kept}
 use Rattle.glacier_store.specs.declared.store.Store.{Store}
 
@@ -183,30 +183,25 @@ pub reads : {old new : Told} (store : Store) (r : ℕ) → NowCall old new → n
 reads store r call is = untouched (reading store r) nothing (λ c. (refl, refl)) refl refl refl
     (does_quiet store nothing call.disk.rests call.time (ap sent_on call.connections)) is call.connections
 
--- a call of the store, by which events are kept, or the server breaks off, with the events or without them
-module _ {old new : Told} (law : Lawful new) (alone : ByDisk old new) (store : Store) where
+-- calls of the store, by which events are kept, or the server breaks off behind some first ones of them
+module _ {old new : Told} (law : Lawful new) (alone : ByDisk old new) (store : Store) (events : List AccountEvent)
+    (leaves : Kept old store → KeepsFirst old new store.accounts events) where
   no_reading : new.readings ≡ old.readings ++ []
   no_reading = alone.readings ∙ sym (append-nil _)
 
-  module _ (events : List AccountEvent)
-      (leaves : Kept old store → Changes old new store.accounts (after_all store.accounts events)) where
-    pub keeps_all : (after : Store) → after.accounts ≡ after_all store.accounts events
-        → after.journal.length ≡ store.journal.length + room_of events → (Kept old store → Kept new after)
-        → Transfer old new (acting store after (acts_of events)) nothing
-    keeps_all after is grew kept =
-        untouched (acting store after (acts_of events)) nothing (λ c. (refl, refl)) refl (bytes_of-keeps events) refl
-        (does_keep store after events nothing law alone is
-        (grew ∙ ap (λ (l : List AccountEvent). store.journal.length + room_of l) (sym (events_in-keeps events)))
-        leaves kept) no_reading alone.connections
+  pub keeps_all : (after : Store) → after.accounts ≡ after_all store.accounts events
+      → GrewBy store.journal.length after.journal.length events → (Kept old store → Kept new after)
+      → Transfer old new (acting store after (acts_of events)) nothing
+  keeps_all after is grew kept =
+      untouched (acting store after (acts_of events)) nothing (λ c. (refl, refl)) refl (bytes_of-keeps events) refl
+      (does_keep store after events nothing law alone is
+      (subst (λ (l : List AccountEvent). GrewBy store.journal.length after.journal.length l) (sym
+      (events_in-keeps events)) grew)
+      leaves kept) no_reading alone.connections
 
-    pub keeps_some : Transfer old new (acting store (record store { accounts = after_all store.accounts events })
-        (acts_of events)) breaking
-    keeps_some =
-        let after = record store { accounts = after_all store.accounts events } in
-        untouched (acting store after (acts_of events)) breaking (λ c. (refl, refl)) refl (bytes_of-keeps events) refl
-        (does_keep store after events breaking law alone refl tt leaves (λ kept. tt)) no_reading alone.connections
-
-  pub keeps_none : (Kept old store → Stays old new store.accounts) → Transfer old new (acting store store []) breaking
-  keeps_none leaves =
-      untouched (acting store store []) breaking (λ c. (refl, refl)) refl refl refl
-      (does_stay store law alone leaves) no_reading alone.connections
+  pub keeps_some : Transfer old new (acting store (record store { accounts = after_all store.accounts events })
+      (acts_of events)) breaking
+  keeps_some =
+      let after = record store { accounts = after_all store.accounts events } in
+      untouched (acting store after (acts_of events)) breaking (λ c. (refl, refl)) refl (bytes_of-keeps events) refl
+      (does_keep store after events breaking law alone refl tt leaves (λ kept. tt)) no_reading alone.connections

@@ -1,15 +1,17 @@
 -- A crash amid acts one after another, and what the journal grew by.
 use Rattle.std.proofs.Common.{◌≡◌, ℕ, ◌+◌, List, [], ◌++◌, length, take, sym, ap, subst, ◌∙◌, arith}
 use Rattle.std.specs.Prelude.{min}
-use Rattle.std.proofs.lemmas.List.{take_all, take_min, take-append-le}
+use Rattle.std.proofs.lemmas.List.{take_all, take_min, take-append-le, take-map}
 use Rattle.std.proofs.Math.Seq.{take-append-add}
 use Rattle.glacier_disk.specs.Image.{Image}
-use Rattle.glacier_server.specs.Acts.{Act, events_in, sent_by, after_acts, StopsAfter}
+use Rattle.glacier_server.specs.Acts.{Act, keep, keeps, events_in, sent_by, after_acts, StopsAfter}
 use Rattle.glacier_server.specs.Does.{Grew, StillGrew, Failing, nothing, receiving, sending, breaking}
-use Rattle.glacier_server.proofs.ActLemmas.{sent_by-append, after_acts-append, room-append}
-use Rattle.glacier_store.specs.Events.{room_of}
+use Rattle.glacier_server.specs.Events.{StandsForFirst}
+use Rattle.glacier_server.specs.Rooms.{GrewBy}
+use Rattle.glacier_server.proofs.ActLemmas.{sent_by-append, sent_by-keeps, after_acts-append, after-keeps, events_in-append}
+use Rattle.glacier_server.proofs.RoomLemmas.{grew_none, grew_behind}
 use Rattle.glacier_store.specs.Stands.{Stands}
-use Rattle.glacier_vault.specs.Accounts.{Accounts}
+use Rattle.glacier_vault.specs.Accounts.{Accounts, AccountEvent}
 use Rattle.glacier_store.specs.declared.store.Store.{Store}
 
 -- a crash before the first act, and behind the last one
@@ -54,16 +56,37 @@ later {before = before} {state = state} first more {i = i} x =
           ∙ ap (after_acts state) (sym split)) x.stands;
     }
 
+-- behind the first of these events, before which just these bytes had been sent
+pub stops_first_of : {before : List (List ℕ)} {state : Accounts} {i : Image} {sent : List (List ℕ)}
+    (events : List AccountEvent) → sent ≡ before → StandsForFirst state events i
+    → StopsAfter before state (keeps events) i sent
+stops_first_of {before = before} {state = state} {i = i} events is x =
+    let same : take x.count (keeps events) ≡ keeps (take x.count events) = take-map keep x.count events in
+    record {
+      k = x.count;
+      bytes = is ∙ sym (sent_by-keeps (take x.count events) before)
+          ∙ ap (λ (l : List Act). sent_by l before) (sym same);
+      stands = subst (λ (s : Accounts). Stands i s) (sym (after-keeps state (take x.count events))
+          ∙ ap (after_acts state) (sym same)) x.stands;
+    }
+
 -- what the journal grew by
+grew_no_event : (store : Store) (acts : List Act) → events_in acts ≡ [] → Grew store store acts
+grew_no_event store acts none =
+    subst (λ (l : List AccountEvent). GrewBy store.journal.length store.journal.length l) (sym none)
+    (grew_none store.journal.length)
+
 pub grew_same : (failing : Failing) (store : Store) (acts : List Act) → events_in acts ≡ []
     → StillGrew failing store store acts
-grew_same nothing store acts none = omega (arith, ap room_of none)
-grew_same receiving store acts none = omega (arith, ap room_of none)
-grew_same sending store acts none = omega (arith, ap room_of none)
+grew_same nothing store acts none = grew_no_event store acts none
+grew_same receiving store acts none = grew_no_event store acts none
+grew_same sending store acts none = grew_no_event store acts none
 grew_same breaking store acts none = tt
 
-grew_joined : (s m e : Store) (first more : List Act) → Grew s m first → Grew m e more → Grew s e (first ++ more)
-grew_joined s m e first more one two = omega (arith, one, two, room-append first more)
+pub grew_joined : (s m e : Store) (first more : List Act) → Grew s m first → Grew m e more → Grew s e (first ++ more)
+grew_joined s m e first more one two =
+    subst (λ (l : List AccountEvent). GrewBy s.journal.length e.journal.length l) (sym (events_in-append first more))
+    (grew_behind s.journal.length m.journal.length e.journal.length (events_in first) (events_in more) one two)
 
 pub grew_then : (failing : Failing) (s m e : Store) (first more : List Act) → Grew s m first
     → StillGrew failing m e more → StillGrew failing s e (first ++ more)

@@ -1,13 +1,13 @@
-use Rattle.std.proofs.Common.{◌≡◌, ◌∙◌, List, sym, subst}
+use Rattle.std.proofs.Common.{◌≡◌, ◌∙◌, sym, subst}
 use Rattle.std.specs.Prelude.{IfOk}
 use Rattle.glacier_http.specs.declared.reply.Reply.{Reply}
 use Rattle.glacier_http.specs.View.{HeadText, text_of}
 use Rattle.glacier_server.specs.Machine.{told_head}
-use Rattle.glacier_server.proofs.ReplyLemmas.{head_happened}
+use Rattle.glacier_server.proofs.ReplyLemmas.{head_outcome}
 use Rattle.glacier_server.proofs.service.Service.reply_to_message.Goals as goal
 use Rattle.glacier_store.specs.declared.store.Store.{Store}
-use Rattle.glacier_vault.specs.Accounts.{AccountEvent}
-use Rattle.glacier_server.specs.Events.{KeepsEvents}
+use Rattle.glacier_machine.specs.Outcomes.{Outcome}
+use Rattle.glacier_server.specs.Events.{KeepsOutcome}
 
 pub returns-clause-reply : goal.returns-clause-reply
 returns-clause-reply g c h behind body reads sized count kept =
@@ -27,6 +27,6 @@ returns-clause-keeps g c t h behind body reads sized count kept =
       c.bytes.ensures.same
           ∙ reads.1,
     ) in
-    subst (λ (l : List AccountEvent). KeepsEvents (g.D.Disk.told c.args.disk.now) (g.D.Disk.told c.reply_to_head.new.disk) c.args.store l c.reply_to_head.result)
-    (head_happened c.args.self.now.config.now c.args.store.accounts h body c.args.reading c.view-head.result is)
+    subst (λ (l : Outcome). KeepsOutcome (g.D.Disk.told c.args.disk.now) (g.D.Disk.told c.reply_to_head.new.disk) c.args.store l c.reply_to_head.result)
+    (head_outcome c.args.self.now.config.now c.args.store.accounts h body c.args.reading c.view-head.result is)
     (c.reply_to_head.ensures.keeps t body (sym count) kept)
