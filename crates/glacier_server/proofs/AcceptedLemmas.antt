@@ -1,5 +1,5 @@
 -- A connection from its accept to its end.
-use Rattle.std.proofs.Common.{◌≡◌, ℕ, ◌+◌, List, [], ◌∷◌, ◌++◌, refl, sym, ap, subst, ◌∙◌, arith, append-nil}
+use Rattle.std.proofs.Common.{◌≡◌, ℕ, ◌+◌, List, [], ◌∷◌, ◌++◌, Option, Some, None, refl, sym, ap, subst, ◌∙◌, arith, append-nil}
 use Rattle.glacier_disk.specs.Calls.{HangUpCall}
 use Rattle.glacier_disk.specs.Network.{Connection, Wait, accepted, sent_on, wait_of}
 use Rattle.glacier_disk.specs.Told.{Told}
@@ -10,7 +10,8 @@ use Rattle.glacier_server.specs.declared.end.ServeFault.{ServeFault}
 use Rattle.glacier_server.specs.declared.end.ServeFault.TheVariants.{Disk, Memory, JournalEnd, Accept}
 use Rattle.glacier_server.specs.Acts.{Act, accept, bytes_of}
 use Rattle.glacier_server.specs.Served.{ServedLast, IsPrompt, failing_of}
-use Rattle.glacier_server.specs.Breaking.{PartLast, BrokenBy}
+use Rattle.glacier_server.specs.Breaking.{PartLast, BrokenBy, LastBroken}
+use Rattle.glacier_server.specs.Turns.{Turn}
 use Rattle.glacier_server.specs.Serving.{IsSessionOf, begun, acts_of, Comes, Serves, BreaksLast, ServedTill, Breaks, JustAccepted}
 use Rattle.glacier_server.specs.Session.{Session}
 use Rattle.glacier_server.specs.Transfer.{Transfer, Fails, current, others}
@@ -34,6 +35,12 @@ own_end Refused never = absurd (cc)
 own_end Bound never = absurd (cc)
 own_end ReadFault never = absurd (cc)
 own_end SendFault never = absurd (cc)
+
+-- no accept breaks a connection off
+no_accept : (config : Config) (store : Store) (last : Option (Turn × ℕ)) (acts : List Act)
+    → LastBroken config store last acts Accept → ⊥
+no_accept config store None acts x = let never : Accept ≡ Memory = x.0 in cc
+no_accept config store (Some last) acts x = x
 
 -- from an accept to the end of its connection, which was closed then
 module _ (old start done new : Told) {store : Store} (opens : JustAccepted old start store)
@@ -145,4 +152,4 @@ module _ (old start done new : Told) {store : Store} (opens : JustAccepted old s
       by_fault Disk y is = y
       by_fault Memory y is = y
       by_fault (JournalEnd end) y is = y
-      by_fault Accept y is = absurd is
+      by_fault Accept y is = absurd (no_accept config is.store x.part.1.last is.acts is.broken)

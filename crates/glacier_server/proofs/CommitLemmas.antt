@@ -45,9 +45,9 @@ module _ (config : Config) (store : Store) (m : Message) (r : ℕ) (close : Bool
       ∙ take-append_seam (keeps first) (keeps more ++ sends (reply config store.accounts m r close))
 
   -- calls of the store
-  module _ {T : Type 0} {old new : Told} (law : Lawful new) (alone : ByDisk old new) where
+  module _ {old new : Told} (law : Lawful new) (alone : ByDisk old new) where
     -- keep them
-    pub committed : (x : T × Store) → KeepsOutcome old new store (one config store.accounts m r) (Ok x)
+    pub committed : {T : Type 0} (x : T × Store) → KeepsOutcome old new store (one config store.accounts m r) (Ok x)
         → Transfer old new (acting store x.1 (keeps (happened config store.accounts m r))) nothing
     unfolding happened
     committed x keeps = keeps_all law alone store (happened config store.accounts m r) keeps.any_moment x.1
@@ -71,12 +71,12 @@ module _ (config : Config) (store : Store) (m : Message) (r : ℕ) (close : Bool
           broken (take k (done config store.accounts m r close)) same,
         )
 
-    pub broke : (fault : ServeFault) → HasBroken fault old new
+    pub broke : {T : Type 0} (fault : ServeFault) → HasBroken fault old new
         → KeepsOutcome {T = T} old new store (one config store.accounts m r) (Err fault)
         → (k : ℕ) × (after : Store)
         × Transfer old new (acting store after (take k (done config store.accounts m r close))) breaking
         × BrokenFor config store (whole m) r (take k (done config store.accounts m r close)) fault
-    unfolding happened passed
+    unfolding happened passed caused
     broke Disk is x =
         behind Disk (happened config store.accounts m r) [] (sym (append-nil _)) x.any_moment
         (λ acts are. silent (happened config store.accounts m r) acts are)
@@ -85,13 +85,15 @@ module _ (config : Config) (store : Store) (m : Message) (r : ℕ) (close : Bool
         (λ kept. x.memory kept refl)
         (λ acts are. (
           silent (passed config store.accounts m r) acts are,
-          [],
-          sym (ap (λ (l : List AccountEvent). l ++ []) (ap events_in are ∙ events_in-keeps (passed config store.accounts m r))
-              ∙ append-nil _),
+          (
+            [],
+            sym (ap (λ (l : List AccountEvent). l ++ []) (ap events_in are
+                ∙ events_in-keeps (passed config store.accounts m r)) ∙ append-nil _),
+          ),
         ))
-    broke (JournalEnd length) is x =
-        behind (JournalEnd length) (happened config store.accounts m r) [] (sym (append-nil _)) x.any_moment
-        (λ acts are. (silent (happened config store.accounts m r) acts are, x.end length refl))
+    broke (JournalEnd end) is x =
+        behind (JournalEnd end) (happened config store.accounts m r) [] (sym (append-nil _)) x.any_moment
+        (λ acts are. (silent (happened config store.accounts m r) acts are, x.end end refl))
     broke Accept is x = absurd is
 
   module _ {old mid now : Told} (after : Store)

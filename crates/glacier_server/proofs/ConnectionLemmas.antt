@@ -14,8 +14,7 @@ use Rattle.glacier_server.specs.Breaking.{PartLast}
 use Rattle.glacier_server.specs.Session.{Session, taking, HeldWaiting}
 use Rattle.glacier_server.specs.Transfer.{Transfer, current}
 use Rattle.glacier_server.specs.Does.{nothing}
-use Rattle.glacier_server.proofs.RunLemmas.{SoFar, goes_on, stops, breaks, served, part_none, nothing_none}
-use Rattle.glacier_server.proofs.BrokenLemmas.{broken_by}
+use Rattle.glacier_server.proofs.RunLemmas.{SoFar, goes_on, stops, breaks, broken_by, served, part_none, nothing_none}
 use Rattle.glacier_server.proofs.RunLemmas as run
 use Rattle.glacier_server.proofs.SessionLemmas.{joined, held_then}
 use Rattle.glacier_server.proofs.TransferLemmas.{stays, then, moved, breaks_off}
@@ -58,12 +57,12 @@ module _ {config : Config} {a : Told} {store : Store} where
 
     -- at each wait of an exchange, all was done that was due
     prompt_then : (t : Session) → t.before ≡ from.store
-        → HeldWaiting (wait_of (current b.connections)) t (λ till. Idles (exchange_on from [] [] till))
+        → HeldWaiting (wait_of (current b.connections)) t (λ till. Idles config (exchange_on from [] [] till))
         → IsPrompt config (wait_of (current a.connections)) (joined x.session t)
     prompt_then t starts idle =
-        held_then (wait_of (current a.connections)) x.session t (Stops config) (λ till. Idles
+        held_then (wait_of (current a.connections)) x.session t (Stops config) (λ till. Idles config
         (exchange_on from [] [] till)) x.prompt
-        (subst (λ (w : Wait). HeldWaiting w t (λ till. Idles (exchange_on from [] [] till)))
+        (subst (λ (w : Wait). HeldWaiting w t (λ till. Idles config (exchange_on from [] [] till)))
         (moved x.session x.transfer) idle)
         (λ u front holds. stops config x.session u from x.so_far (front.before ∙ starts) [] [] holds)
 

@@ -8,8 +8,8 @@ use Rattle.glacier_http.specs.Messages.{Message, last_end}
 use Rattle.glacier_vault.specs.Accounts.{Accounts, AccountEvent}
 use Rattle.glacier_machine.specs.declared.config.Config.{Config}
 use Rattle.glacier_server.specs.Acts.{Act, sends, keeps, bytes_of, events_in}
-use Rattle.glacier_server.specs.Machine.{reply, after, happened}
-use Rattle.glacier_server.specs.Out.{told, run, out, interim}
+use Rattle.glacier_server.specs.Machine.{reply, after, first_events, further}
+use Rattle.glacier_server.specs.Out.{told, run, out, first_acts, interim}
 use Rattle.glacier_server.proofs.ActLemmas.{bytes_of-append, bytes_of-sends, bytes_of-keeps, events_in-append, events_in-sends}
 
 -- the acts for some messages, and then those for the others
@@ -64,7 +64,7 @@ module _ (config : Config) (state : Accounts) (before behind : List Message) (m 
 
   -- up to the events of the message
   first : List Act
-  first = out config 0 state before readings ++ (sends (interim m) ++ keeps (happened config mid m r))
+  first = out config 0 state before readings ++ (first_acts config mid m r ++ keeps (further config mid m r))
 
   text : List Act
   text = sends (reply config mid m r (is_some (last_end (0 + length before) m)))
@@ -74,7 +74,7 @@ module _ (config : Config) (state : Accounts) (before behind : List Message) (m 
   one_is =
       out_split config 0 state before (m ∷ []) readings (r ∷ []) each
       ∙ ap (λ (l : List Act). out config 0 state before readings ++ l) (append-nil _
-      ∙ sym (append_assoc (sends (interim m)) (keeps (happened config mid m r)) text))
+      ∙ sym (append_assoc (first_acts config mid m r) (keeps (further config mid m r)) text))
       ∙ sym (append_assoc (out config 0 state before readings) _ text)
 
   all_is : (rest : List Act) × (out config 0 state (before ++ m ∷ behind) (readings ++ r ∷ more) ≡ first ++ rest)
@@ -84,28 +84,37 @@ module _ (config : Config) (state : Accounts) (before behind : List Message) (m 
         text ++ rest,
         out_split config 0 state before (m ∷ behind) readings (r ∷ more) each
             ∙ ap (λ (l : List Act). out config 0 state before readings ++ l)
-            (append_assoc (sends (interim m)) _ rest ∙ ap (λ (l : List Act). sends (interim m) ++ l) (append_assoc
-            (keeps (happened config mid m r)) text rest)
-            ∙ sym (append_assoc (sends (interim m)) (keeps (happened config mid m r)) (text ++ rest)))
+            (append_assoc (first_acts config mid m r) _ rest ∙ ap (λ (l : List Act). first_acts config mid m r ++ l) (append_assoc
+            (keeps (further config mid m r)) text rest)
+            ∙ sym (append_assoc (first_acts config mid m r) (keeps (further config mid m r)) (text ++ rest)))
             ∙ sym (append_assoc (out config 0 state before readings) _ (text ++ rest)),
       )
 
-  bytes_are : length (bytes_of first) ≡ length (bytes_of (out config 0 state before readings)) + length (interim m)
+  first_bytes : bytes_of (first_acts config mid m r) ≡ interim config mid m r
+  first_bytes =
+      bytes_of-append (keeps (first_events config mid m r)) (sends (interim config mid m r))
+      ∙ ap (λ (l : List ℕ). l ++ bytes_of (sends (interim config mid m r))) (bytes_of-keeps (first_events config mid m r))
+      ∙ bytes_of-sends (interim config mid m r)
+
+  bytes_are : length (bytes_of first) ≡ length (bytes_of (out config 0 state before readings))
+      + length (interim config mid m r)
   unfolding first
   bytes_are =
-      ap length (bytes_of-append (out config 0 state before readings) (sends (interim m) ++ keeps
-      (happened config mid m r))
+      ap length (bytes_of-append (out config 0 state before readings) (first_acts config mid m r ++ keeps
+      (further config mid m r))
       ∙ ap (λ (l : List ℕ). bytes_of (out config 0 state before readings) ++ l)
-      (bytes_of-append (sends (interim m)) (keeps (happened config mid m r))
-      ∙ ap (λ (l : List ℕ). l ++ bytes_of (keeps (happened config mid m r))) (bytes_of-sends (interim m))
-      ∙ ap (λ (l : List ℕ). interim m ++ l) (bytes_of-keeps (happened config mid m r)) ∙ append-nil (interim m)))
-      ∙ length-append (bytes_of (out config 0 state before readings)) (interim m)
+      (bytes_of-append (first_acts config mid m r) (keeps (further config mid m r))
+      ∙ ap (λ (l : List ℕ). l ++ bytes_of (keeps (further config mid m r))) first_bytes
+      ∙ ap (λ (l : List ℕ). interim config mid m r ++ l) (bytes_of-keeps (further config mid m r))
+      ∙ append-nil (interim config mid m r)))
+      ∙ length-append (bytes_of (out config 0 state before readings)) (interim config mid m r)
 
-  pub events_first : length (bytes_of (out config 0 state before readings)) + length (interim m) < length (bytes_of
+  pub events_first : length (bytes_of (out config 0 state before readings)) + length (interim config
+      (run config state before readings) m r) < length (bytes_of
       (take k (out config 0 state (before ++ m ∷ behind) (readings ++ r ∷ more))))
       → (others : List AccountEvent) × (events_in (take k (out config 0 state (before ++ m ∷ behind)
       (readings ++ r ∷ more))) ≡ events_in (out config 0 state (before ++ m ∷ []) (readings ++ r ∷ [])) ++ others)
-  unfolding text
+  unfolding text mid
   events_first some =
       let same = all_is.1 in
       let past = past_all first all_is.0 k (omega (

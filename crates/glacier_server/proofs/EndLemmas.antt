@@ -15,6 +15,8 @@ use Rattle.glacier_server.specs.Exchange.{Standing, Exchange, exchange_on, Answe
 use Rattle.glacier_server.specs.Machine.{reply, after, happened}
 use Rattle.glacier_server.specs.Out.{told}
 use Rattle.glacier_server.specs.Session.{Session}
+use Rattle.glacier_server.specs.Turns.{whole}
+use Rattle.glacier_server.proofs.EventLemmas.{done_is}
 use Rattle.glacier_store.specs.declared.store.Store.{Store}
 
 -- the ends that a message makes
@@ -73,7 +75,9 @@ module _ (config : Config) (from : Standing) (r : ℕ) (cause : BadHead) (rest :
 
   bad_told : told config from.count from.store.accounts (Bad cause) r ≡ sends text
   unfolding happened text
-  bad_told = ap (λ (b : Bool). sends (reply config from.store.accounts (Bad cause) r b)) (bad_closes from.count cause)
+  bad_told =
+      done_is config from.store.accounts (Bad cause) r (is_some (last_end from.count (Bad cause)))
+      ∙ ap (λ (b : Bool). sends (reply config from.store.accounts (Bad cause) r b)) (bad_closes from.count cause)
 
   begins_bad : Begins (from.unread ++ []) (Bad cause) rest
   begins_bad = subst (λ (l : List ℕ). BeginsBad l cause rest) (sym (append-nil from.unread)) stands
@@ -103,10 +107,10 @@ module _ (config : Config) (from : Standing) (r : ℕ) (cause : BadHead) (rest :
       (reply config from.store.accounts (Bad cause) r true))) r []))
   unfolding text
   bad_part left coming k = record {
-    message = Bad cause;
+    turn = whole (Bad cause);
     reading = r;
     rest = rest;
-    begins = begins_bad;
+    next = begins_bad;
     one = refl;
     count = k;
     part = ap (λ (l : List Act). take k l) (sym bad_told);

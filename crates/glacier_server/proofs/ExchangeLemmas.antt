@@ -4,7 +4,7 @@ use Rattle.std.specs.Prelude.{Option}
 use Rattle.glacier_disk.specs.Network.{Wait, wait_of}
 use Rattle.glacier_disk.specs.Told.{Told}
 use Rattle.glacier_http.specs.Opening.{HasNoOpening}
-use Rattle.glacier_http.specs.Messages.{Begins, end_of_rest}
+use Rattle.glacier_http.specs.Messages.{end_of_rest}
 use Rattle.glacier_http.proofs.BeginLemmas.{none_waits}
 use Rattle.glacier_machine.specs.declared.config.Config.{Config}
 use Rattle.glacier_server.specs.declared.end.End.{End}
@@ -12,7 +12,7 @@ use Rattle.glacier_server.specs.declared.end.End.TheVariants.{ReadFault}
 use Rattle.glacier_server.specs.declared.end.ServeFault.{ServeFault}
 use Rattle.glacier_server.specs.Exchange.{Standing, standing, Exchange, exchange_on, Idles, IsExchange, Exchanges, end_for}
 use Rattle.glacier_server.specs.Breaking.{BreaksOff}
-use Rattle.glacier_server.specs.Out.{told}
+use Rattle.glacier_server.specs.Turns.{IsNext, turn_acts}
 use Rattle.glacier_server.specs.Served.{failing_of}
 use Rattle.glacier_server.specs.Session.{Session, taking, HeldAt, HeldWaiting}
 use Rattle.glacier_server.specs.Transfer.{TakenAt, TakesBehind, NoneComing, current}
@@ -22,32 +22,32 @@ use Rattle.glacier_server.proofs.TransferLemmas.{then, moved, fails_as}
 use Rattle.glacier_store.specs.declared.store.Store.{Store}
 
 -- no head is there yet
-need : (from : Standing) (left coming got : List ℕ) (waits : List Wait) → HasNoOpening (from.unread ++ got)
-    → Idles (exchange_on from left coming (taking from.store got waits))
-need from left coming got waits none =
+need : (config : Config) (from : Standing) (left coming got : List ℕ) (waits : List Wait) → HasNoOpening (from.unread ++ got)
+    → Idles config (exchange_on from left coming (taking from.store got waits))
+need config from left coming got waits none =
     record { none = none_waits (from.unread ++ got) none; same = refl; tells = refl; read = λ _ h more x. none _ _ x.opening }
 
 -- the input ended
-at_the_end : (config : Config) (x : Exchange) (input : List ℕ) → x.input ≡ input → Idles x → x.coming ≡ []
+at_the_end : (config : Config) (x : Exchange) (input : List ℕ) → x.input ≡ input → Idles config x → x.coming ≡ []
     → IsExchange config x (Some (end_for (end_of_rest input)))
 at_the_end config x [] is idle none = inr (idle, sym (ap end_of_rest is), none)
 at_the_end config x (b ∷ input) is idle none = (idle, sym (ap end_of_rest is), none)
 
-module _ (n : ℕ) {a b : Told} {unread now : List ℕ} (store : Store) {failing : Failing}
+module _ (config : Config) (n : ℕ) {a b : Told} {unread now : List ℕ} (store : Store) {failing : Failing}
     (found : TakesBehind a b unread now HasNoOpening failing) where
   -- at each wait no head was there
-  idle : HeldWaiting (wait_of (current a.connections)) (taking store found.got found.takes.waits) (λ till. Idles
+  idle : HeldWaiting (wait_of (current a.connections)) (taking store found.got found.takes.waits) (λ till. Idles config
       (exchange_on (standing n unread store) [] [] till))
   idle = all_more _ _ found.takes.waits at found.takes.each
     where
       at : (w : Wait) → TakenAt (wait_of (current a.connections)) found.got (λ l. HasNoOpening (unread ++ l)) w
-          → HeldAt (wait_of (current a.connections)) (taking store found.got found.takes.waits) (λ till. Idles
+          → HeldAt (wait_of (current a.connections)) (taking store found.got found.takes.waits) (λ till. Idles config
           (exchange_on (standing n unread store) [] [] till)) w
       at w x = record {
         till = taking store x.till [];
         front = record { before = refl; taken = (x.later, x.cut); acts = ([], refl); readings = ([], refl) };
         at = x.at ∙ same_wait _ _ _ _ refl (omega arith);
-        holds = need (standing n unread store) [] [] x.till [] x.holds;
+        holds = need config (standing n unread store) [] [] x.till [] x.holds;
       }
 
 -- the input ended, or a receive failed, behind the bytes that were taken for a head
@@ -63,10 +63,10 @@ module _ {config : Config} {n : ℕ} {a b : Told} {unread now : List ℕ} {store
         leaves = same;
         transfer = fails_as s nothing (failing_of e) (sym of_none) (found.takes.transfer store);
         exchange = subst (λ (f : End). IsExchange config x (Some f)) (sym is)
-            (at_the_end config x now (sym found.behind) (need (standing n unread store) to.unread
+            (at_the_end config x now (sym found.behind) (need config (standing n unread store) to.unread
             (current b.connections).coming found.got found.takes.waits
             (subst HasNoOpening found.behind none)) ended);
-        idle = idle n store found;
+        idle = idle config n store found;
       }
 
   pub fails_behind : TakesBehind a b unread now HasNoOpening receiving → HasNoOpening now → (to : Standing)
@@ -76,9 +76,9 @@ module _ {config : Config} {n : ℕ} {a b : Told} {unread now : List ℕ} {store
     starts = refl;
     leaves = same;
     transfer = found.takes.transfer store;
-    exchange = need (standing n unread store) to.unread (current b.connections).coming found.got found.takes.waits
+    exchange = need config (standing n unread store) to.unread (current b.connections).coming found.got found.takes.waits
         (subst HasNoOpening found.behind none);
-    idle = idle n store found;
+    idle = idle config n store found;
   }
 
 -- an exchange of what is unread then
@@ -94,19 +94,19 @@ module _ {n : ℕ} {a b : Told} {unread now : List ℕ} {store : Store}
       ∙ ap (λ (k : Store). record (exchange_on (standing n unread store) left coming (joined
       (taking store found.got found.takes.waits) s)) { before = k.accounts }) starts
 
-  idles_behind : (s : Session) → s.before ≡ store
-      → HeldWaiting (wait_of (current b.connections)) s (λ till. Idles (exchange_on
+  idles_behind : (config : Config) (s : Session) → s.before ≡ store
+      → HeldWaiting (wait_of (current b.connections)) s (λ till. Idles config (exchange_on
       (standing n now store) [] [] till))
       → HeldWaiting (wait_of (current a.connections)) (joined (taking store found.got found.takes.waits) s)
-      (λ till. Idles (exchange_on (standing n unread store) [] [] till))
-  idles_behind s starts held =
+      (λ till. Idles config (exchange_on (standing n unread store) [] [] till))
+  idles_behind config s starts held =
       let one = taking store found.got found.takes.waits in
-      held_then (wait_of (current a.connections)) one s (λ till. Idles (exchange_on
-      (standing n unread store) [] [] till)) (λ till. Idles (exchange_on (standing n now store) [] [] till))
-      (idle n store found)
-      (subst (λ (w : Wait). HeldWaiting w s (λ till. Idles (exchange_on (standing n now store) [] [] till)))
+      held_then (wait_of (current a.connections)) one s (λ till. Idles config (exchange_on
+      (standing n unread store) [] [] till)) (λ till. Idles config (exchange_on (standing n now store) [] [] till))
+      (idle config n store found)
+      (subst (λ (w : Wait). HeldWaiting w s (λ till. Idles config (exchange_on (standing n now store) [] [] till)))
       (moved one (found.takes.transfer store)) held)
-      (λ u front holds. subst Idles (regroup [] [] u (front.before ∙ starts)) holds)
+      (λ u front holds. subst (Idles config) (regroup [] [] u (front.before ∙ starts)) holds)
 
   pub exchanges_behind : {config : Config} {c : Told} {to : Standing} {end : Option End}
       → Exchanges config (standing n now store) to b c end → Exchanges config (standing n unread store) to a c end
@@ -118,7 +118,7 @@ module _ {n : ℕ} {a b : Told} {unread now : List ℕ} {store : Store}
         (found.takes.transfer store) x.transfer;
     exchange = subst (λ (y : Exchange). IsExchange config y end) (regroup to.unread
         (current c.connections).coming x.session x.starts) x.exchange;
-    idle = idles_behind x.session x.starts x.idle;
+    idle = idles_behind config x.session x.starts x.idle;
   }
 
   pub breaks_behind : {config : Config} {c : Told} {fault : ServeFault}
@@ -129,16 +129,16 @@ module _ {n : ℕ} {a b : Told} {unread now : List ℕ} {store : Store}
     transfer = then (taking store found.got found.takes.waits) x.session x.starts
         (found.takes.transfer store) x.transfer;
     part = record {
-      message = x.part.message;
+      turn = x.part.turn;
       reading = x.part.reading;
       rest = x.part.rest;
-      begins = subst (λ (y : Exchange). Begins y.input x.part.message x.part.rest) (regroup [] [] x.session x.starts)
-          x.part.begins;
+      next = subst (λ (y : Exchange). IsNext y.input x.part.turn x.part.rest) (regroup [] [] x.session x.starts)
+          x.part.next;
       one = x.part.one;
       count = x.part.count;
-      part = x.part.part ∙ ap (λ (y : Exchange). take x.part.count (told config y.count y.before x.part.message
+      part = x.part.part ∙ ap (λ (y : Exchange). take x.part.count (turn_acts config y.count y.before x.part.turn
           x.part.reading)) (regroup [] [] x.session x.starts);
     };
     broken = x.broken;
-    idle = idles_behind x.session x.starts x.idle;
+    idle = idles_behind config x.session x.starts x.idle;
   }

@@ -3,7 +3,6 @@ mod ActLemmas
 mod AllSentLemmas
 mod AnswerLemmas
 mod BodyLemmas
-mod BrokenLemmas
 mod CommitLemmas
 mod ConnectionLemmas
 mod CutLemmas

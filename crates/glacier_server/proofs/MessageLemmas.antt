@@ -17,12 +17,13 @@ use Rattle.glacier_server.specs.Acts.{Act, keeps as acts_of}
 use Rattle.glacier_server.specs.declared.end.End.{End}
 use Rattle.glacier_server.specs.declared.end.End.TheVariants.{Cut, ReadFault, SendFault}
 use Rattle.glacier_server.specs.declared.end.ServeFault.{ServeFault}
-use Rattle.glacier_server.specs.Events.{KeepsEvents}
+use Rattle.glacier_server.specs.Events.{KeepsOutcome}
 use Rattle.glacier_server.specs.Exchange.{Standing, exchange_on, IsExchange, Exchanges, Idles, failing_at, end_of_good}
 use Rattle.glacier_server.specs.Breaking.{BreaksOff, BrokenFor}
 use Rattle.glacier_server.specs.Front.{AtFront}
 use Rattle.glacier_server.specs.Machine.{text_of_reply, reply, after, happened}
 use Rattle.glacier_server.specs.Out.{done}
+use Rattle.glacier_server.specs.Turns.{whole as Whole}
 use Rattle.glacier_server.specs.Breaking.{HasBroken}
 use Rattle.glacier_server.specs.Session.{reading, acting, HeldAt, HeldWaiting}
 use Rattle.glacier_server.specs.Transfer.{Transfer, TakenAt, TakesOf, SentAll, SentPart, NoneComing, current}
@@ -49,7 +50,7 @@ module _ (config : Config) (from : Standing) (headers : List HeaderSpan) (spans 
     idle_at : (after : Store) (acts : List Act) (w : Wait)
         → TakenAt (wait_of (current b.connections)) takes.got (λ l. length l < left) w
         → HeldAt (wait_of (current a.connections)) (answering from.store after takes.got acts r takes.takes.waits)
-        (λ till. Idles (exchange_on from [] [] till)) w
+        (λ till. Idles config (exchange_on from [] [] till)) w
     idle_at after acts w x =
         let one = read from.store in record {
           till = answering from.store from.store x.till [] r [];
@@ -64,7 +65,7 @@ module _ (config : Config) (from : Standing) (headers : List HeaderSpan) (spans 
         }
 
     idle : (after : Store) (acts : List Act) → HeldWaiting (wait_of (current a.connections))
-        (answering from.store after takes.got acts r takes.takes.waits) (λ till. Idles (exchange_on from [] [] till))
+        (answering from.store after takes.got acts r takes.takes.waits) (λ till. Idles config (exchange_on from [] [] till))
     idle after acts = all_more _ _ takes.takes.waits (idle_at after acts) takes.takes.each
 
   -- some are missing, as a receive failed
@@ -132,15 +133,16 @@ module _ (config : Config) (from : Standing) (headers : List HeaderSpan) (spans 
 
         pub reply_unmade : {T : Type 0} {d : Told} (fault : ServeFault) → end ≡ end_of_good from.count spans.close
             → Lawful d → ByDisk c d → HasBroken fault c d
-            → AtFront from.unread spans kept (λ m. KeepsEvents {T = T} c d from.store
-            (happened config from.store.accounts m r) (Err fault))
+            → AtFront from.unread spans kept (λ m. KeepsOutcome {T = T} c d from.store
+            (one config from.store.accounts m r) (Err fault))
             → BreaksOff config from a d fault
         unfolding message text
         reply_unmade {T = T} {d = d} fault end_is law alone broken each =
             let m : Message = message in
             let close : Bool = is_some end in
-            let broke = broke config from.store m r close {T = T} law alone fault broken (at_message kept keeps (λ m.
-            KeepsEvents {T = T} c d from.store (happened config from.store.accounts m r) (Err fault)) each) in
+            let broke = broke config from.store m r close law alone {T = T} fault broken (at_message kept keeps (λ m.
+            KeepsOutcome {T = T} c d from.store
+            (one config from.store.accounts m r) (Err fault)) each) in
             let k : ℕ = broke.0 in
             let after : Store = broke.1 in record {
               session = answering from.store after takes.got (take k text) r takes.takes.waits;
@@ -151,7 +153,7 @@ module _ (config : Config) (from : Standing) (headers : List HeaderSpan) (spans 
                   (says (acting from.store after (take k (done config from.store.accounts m r close))) (take k text)
                   (ap (λ (l : List Act). take k l) (same_text close refl)) broke.2);
               part = answered_part config from headers spans used left r is extends takes.got end k whole end_is [] [] after takes.takes.waits;
-              broken = subst (λ (l : List Act). BrokenFor config from.store m r l fault) (ap (λ (l : List Act). take k l)
+              broken = subst (λ (l : List Act). BrokenFor config from.store (Whole m) r l fault) (ap (λ (l : List Act). take k l)
                   (same_text close refl)) broke.3;
               idle = idle takes after (take k text);
             }
@@ -160,15 +162,16 @@ module _ (config : Config) (from : Standing) (headers : List HeaderSpan) (spans 
             (close : Bool) (closes : close ≡ is_some end) {d : Told} (law : Lawful d) (alone : ByDisk c d)
             (reply_is : Reply × Store) (answers : AtFront from.unread spans kept (λ m. reply_is.0 ≡
             (one config from.store.accounts m r).reply))
-            (each : AtFront from.unread spans kept (λ m. KeepsEvents c d from.store
-            (happened config from.store.accounts m r) (Ok reply_is))) where
+            (each : AtFront from.unread spans kept (λ m. KeepsOutcome c d from.store
+            (one config from.store.accounts m r) (Ok reply_is))) where
           printed : text_of_reply reply_is.0 r close ≡ reply config from.store.accounts message r close
           printed = text_is config from.store.accounts message r close reply_is.0 (at_message kept keeps (λ m. reply_is.0 ≡
               (one config from.store.accounts m r).reply) answers)
 
-          kept_events : KeepsEvents c d from.store (happened config from.store.accounts message r) (Ok reply_is)
-          kept_events = at_message kept keeps (λ m. KeepsEvents c d from.store
-              (happened config from.store.accounts m r) (Ok reply_is)) each
+          kept_events : KeepsOutcome c d from.store
+            (one config from.store.accounts message r) (Ok reply_is)
+          kept_events = at_message kept keeps (λ m. KeepsOutcome c d from.store
+            (one config from.store.accounts m r) (Ok reply_is)) each
 
           stored : reply_is.1.accounts ≡ after config from.store.accounts message r
           unfolding after happened

@@ -14,7 +14,7 @@ use Rattle.glacier_server.specs.declared.end.End.TheVariants.{SendFault}
 use Rattle.glacier_server.specs.declared.end.ServeFault.TheVariants.{Memory}
 use Rattle.glacier_server.specs.Exchange.{Standing, BadStands, Exchanges, end_for_some}
 use Rattle.glacier_server.specs.Breaking.{BreaksOff}
-use Rattle.glacier_server.specs.Machine.{text_of_reply, reply, after}
+use Rattle.glacier_server.specs.Machine.{text_of_reply, reply, after, happened}
 use Rattle.glacier_server.specs.Served.{failing_of}
 use Rattle.glacier_server.specs.Session.{reading, acting}
 use Rattle.glacier_server.specs.Transfer.{Transfer, SentAll, SentPart, current}
@@ -33,7 +33,7 @@ text_is config state m r close answer is = ap (λ (a : Reply). text_of_reply a r
 -- a bad head, for which a reading was taken
 still : (config : Config) (from : Standing) (cause : BadHead) (r : ℕ)
     → after config from.store.accounts (Bad cause) r ≡ from.store.accounts
-unfolding after
+unfolding after happened
 still config from cause r = refl
 
 module _ (config : Config) {r : ℕ} {cause : BadHead} {a b : Told} (read : (store : Store)
@@ -45,7 +45,7 @@ module _ (config : Config) {r : ℕ} {cause : BadHead} {a b : Told} (read : (sto
     starts = refl;
     transfer = breaks_off (reading from.store r) (read from.store);
     part = bad_part config from r cause stands.1 stands.2 [] [] 0;
-    broken = refl;
+    broken = ((_, refl), (_, refl));
     idle = All-nil _;
   }
 
