@@ -1,5 +1,5 @@
 -- The refusals of the operations on jobs keep no text that isn't ASCII.
-use Rattle.std.specs.Prelude.{◌≡◌, ℕ, ◌+◌, Bool, true, false, cond, List, Option, Some, None, Result, Ok, Err, IfSome, IfErr, nat_eq, nat_le, nat_lt}
+use Rattle.std.specs.Prelude.{ℕ, ◌+◌, Bool, true, false, cond, List, Option, Some, None, Result, Ok, Err, IfSome, IfErr, nat_eq, nat_le, nat_lt}
 use Rattle.std.specs.FinMap as map
 use Rattle.glacier_job.specs.Beginning.{limit_refusal, accepted_work, after_put, new_job, begin_event, ready_at, begin_row}
 use Rattle.glacier_job.specs.Finding.{found_job, range_within, output_of}

@@ -1,6 +1,6 @@
 -- The output of a job is a stretch of its archive.
-use Rattle.std.specs.Prelude.{◌≡◌, ◌≤◌, ◌+◌, ◌-◌, ℕ, List, length, Option, Some, None, Result, Ok, Err, IfSome, true}
-use Rattle.std.proofs.Common.{◌∙◌, ap, sym, refl, subst, arith}
+use Rattle.std.specs.Prelude.{◌≡◌, ◌≤◌, ℕ, List, Option, Result, Ok, Err, IfSome, true}
+use Rattle.std.proofs.Common.{refl, subst, arith}
 use Rattle.glacier_job.specs.Finding.{found_job, output_of}
 use Rattle.glacier_vault.specs.Lawful.{IsLawful}
 use Rattle.glacier_vault.specs.Named.{is_done}

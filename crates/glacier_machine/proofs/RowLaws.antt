@@ -1,14 +1,11 @@
 -- What the steps of rows leave: by a refusal nothing is changed, and an event is its row's.
-use Rattle.std.specs.Prelude.{◌≡◌, ℕ, Bool, true, false, Option, Some, None, Result, Ok, Err, IfSome, OnOk}
-use Rattle.std.proofs.Common.{refl, sym, ap, ◌∙◌}
+use Rattle.std.specs.Prelude.{◌≡◌, Option, Some, None, Ok, Err, IfSome}
+use Rattle.std.proofs.Common.{refl}
 use Rattle.glacier_http.specs.declared.reply.Reply.{Reply}
-use Rattle.glacier_job.specs.Pass.{pass, freed, pass_change, pass_is_event}
 use Rattle.glacier_vault.specs.Rows.{Row}
 use Rattle.glacier_vault.specs.declared.event.Change.{Change}
-use Rattle.glacier_vault.specs.declared.event.Event.{Event}
 use Rattle.glacier_vault.specs.declared.state.AccountState.{AccountState}
 use Rattle.glacier_machine.specs.AccountSteps.{by_row}
-use Rattle.glacier_machine.specs.Moments.{after_moment, moment_change}
 
 if_some_of : {X P : Type 0} (r : Option X) → P → IfSome r (λ _. P)
 if_some_of None p = tt

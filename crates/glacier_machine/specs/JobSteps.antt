@@ -3,7 +3,6 @@ use Rattle.std.specs.Prelude.{ℕ, ◌+◌, ◌-◌, ◌≤◌, Bool, List, leng
 use Rattle.std.specs.FinMap as map
 use Rattle.glacier_http.specs.declared.reply.Kind.{Kind}
 use Rattle.glacier_http.specs.declared.reply.Kind.TheVariants.{Csv, Json}
-use Rattle.glacier_http.specs.declared.reply.Reply.{Reply}
 use Rattle.glacier_job.specs.Beginning.{begin_row}
 use Rattle.glacier_job.specs.Finding.{found_job, output_of}
 use Rattle.glacier_job.specs.declared.asks.JobAsk.{JobAsk}

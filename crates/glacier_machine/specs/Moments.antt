@@ -1,5 +1,5 @@
 -- What time does to an account before a request at a moment is done.
-use Rattle.std.specs.Prelude.{ℕ, Bool, true, false, if◌then◌else◌}
+use Rattle.std.specs.Prelude.{ℕ, if◌then◌else◌}
 use Rattle.glacier_job.specs.Pass.{pass, pass_change, pass_is_event}
 use Rattle.glacier_vault.specs.Rows.{no_change}
 use Rattle.glacier_vault.specs.declared.event.Change.{Change}

@@ -18,7 +18,7 @@ use Rattle.glacier_server.specs.Transfer.{Transfer, SentAll, SentPart}
 use Rattle.glacier_server.specs.Turns.{whole}
 use Rattle.glacier_server.specs.Does.{nothing, sending, breaking}
 use Rattle.glacier_server.proofs.ActLemmas.{bytes_of-keeps, events_in-keeps}
-use Rattle.glacier_server.proofs.EventLemmas.{done_is, no_interim}
+use Rattle.glacier_server.proofs.EventLemmas.{done_is}
 use Rattle.glacier_server.proofs.StepLemmas.{keeps_all, keeps_some}
 use Rattle.glacier_server.proofs.TransferLemmas.{says, acts_then}
 use Rattle.glacier_store.specs.Stands.{Kept}

@@ -1,5 +1,5 @@
 -- The room that events take, one behind the other.
-use Rattle.std.proofs.Common.{◌≡◌, ℕ, ◌+◌, ◌<◌, ◌^◌, List, [], ◌∷◌, ◌++◌, refl, subst, sym, ap, ◌∙◌, arith}
+use Rattle.std.proofs.Common.{◌≡◌, ℕ, ◌+◌, ◌<◌, ◌^◌, List, [], ◌∷◌, ◌++◌, refl, subst, arith}
 use Rattle.glacier_server.specs.Rooms.{AreRooms, GrewBy, HasNoRoom}
 use Rattle.glacier_store.specs.Events.{room_of}
 use Rattle.glacier_vault.specs.Accounts.{AccountEvent}

@@ -1,5 +1,5 @@
 -- What stands next on a connection: a whole message, or one whose body isn't whole.
-use Rattle.std.specs.Prelude.{◌≡◌, ℕ, List, [], ◌∷◌, Option, Some, None}
+use Rattle.std.specs.Prelude.{ℕ, List, [], ◌∷◌, Option, Some, None}
 use Rattle.httparse.specs.Grammar.{RequestHead}
 use Rattle.glacier_http.specs.Messages.{Message, Begins, BeginsNone}
 use Rattle.glacier_http.specs.Opening.{BeginsHead}

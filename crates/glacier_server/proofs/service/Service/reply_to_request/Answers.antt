@@ -1,7 +1,7 @@
 use Rattle.std.proofs.Common.{◌≤◌, List, [], sym, ap, subst, ◌∙◌}
 use Rattle.std.proofs.lemmas.Result.{IfOk-weaker}
 use Rattle.glacier_machine.specs.AccountSteps.{pass_event}
-use Rattle.glacier_machine.specs.Outcomes.{Outcome, events_of}
+use Rattle.glacier_machine.specs.Outcomes.{Outcome}
 use Rattle.glacier_store.specs.Events.{pass_events, pass_moment}
 use Rattle.glacier_vault.specs.Accounts.{account_in, AccountEvent}
 use Rattle.glacier_vault.specs.declared.rules.Rules.{Rules}
