@@ -169,9 +169,9 @@ module _ (config : Config) (from : Standing) (headers : List HeaderSpan) (spans 
               (one config from.store.accounts m r).reply) answers)
 
           kept_events : KeepsOutcome c d from.store
-            (one config from.store.accounts message r) (Ok reply_is)
+              (one config from.store.accounts message r) (Ok reply_is)
           kept_events = at_message kept keeps (λ m. KeepsOutcome c d from.store
-            (one config from.store.accounts m r) (Ok reply_is)) each
+              (one config from.store.accounts m r) (Ok reply_is)) each
 
           stored : reply_is.1.accounts ≡ after config from.store.accounts message r
           unfolding after happened
