@@ -2,6 +2,7 @@ pub mod ArchiveStays
 pub mod BlobMaps
 pub mod CompletedReplays
 pub mod CounterLemmas
+pub mod DueLemmas
 pub mod FitLemmas
 pub mod FreedLemmas
 pub mod FreesLemmas

@@ -2,10 +2,12 @@
 ghost use Rattle.std.specs.Prelude.{◌≡◌, OnOk, if◌then◌else◌};
 ghost use Rattle.std.specs.FinMap as map;
 ghost use Rattle.std.specs.Option.{option_copied};
+ghost use Rattle.glacier_job.specs.Pass.{pass_is_event};
 ghost use Rattle.glacier_vault.specs.Accounts.{account_in};
 ghost use Rattle.glacier_vault.specs.Lawful.{IsLawful};
 
 use glacier_base::{Account, AccountMap, Memory, Moment};
+use glacier_job::is_due;
 use glacier_vault::AccountState;
 use std::alloc::Global;
 use std::marker::Model;
@@ -73,6 +75,16 @@ impl Accounts {
         match self.accounts.get(account) {
             Some(state) => state.last,
             None => Moment::new(0).unwrap(),
+        }
+    }
+
+    /// Whether the moment `m` settles or ends something in an account.
+    pub fn is_due(&self, account: &Account, m: Moment) -> bool
+        ensures { result ≡ pass_is_event m (account_in self.now account.now) }
+    {
+        match self.accounts.get(account) {
+            Some(state) => is_due(state, m),
+            None => false,
         }
     }
 

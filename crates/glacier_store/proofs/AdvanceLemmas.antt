@@ -58,6 +58,12 @@ change_advances old new holding afterwards k m change result is keeps idle =
     no_event None freed none = refl
     no_event (Some event) freed none = cc none
 
+-- nothing happens
+pub idle_advances : (old : Told) (holding : Holding) (happened : List AccountEvent) → happened ≡ [] → Lawful old → Advances old old holding happened (Ok holding)
+idle_advances old holding happened none law = advanced old old holding happened (Ok holding)
+    (λ state same. subst (λ (l : List AccountEvent). Keeps old old holding.journal holding.area [] state (after_all state l) (Ok holding)) (sym none) (unchanged_keeps old holding state law same))
+    (λ _. looks_start old law)
+
 -- memory was wanting before anything was kept
 pub no_memory_advances : (old : Told) (holding : Holding) (happened : List AccountEvent) (result : Result Holding StoreFault) → result ≡ Err fault.Memory → Lawful old → Advances old old holding happened result
 no_memory_advances old holding happened result is law =

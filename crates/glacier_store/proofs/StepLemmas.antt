@@ -1,6 +1,6 @@
 -- What an action and a moment make of an account is what their events make of it.
 use Rattle.std.specs.FinMap as map
-use Rattle.std.proofs.Common.{◌≡◌, ℕ, ◌≤◌, Bool, true, false, cond, List, [], Option, Some, None, Ok, Err, refl, sym, ◌∙◌, ap, subst, nat_le, not}
+use Rattle.std.proofs.Common.{◌≡◌, ℕ, ◌≤◌, Bool, true, false, cond, List, [], Option, Some, None, Ok, Err, refl, sym, ◌∙◌, ap, subst, nat_le, not, arith}
 use Rattle.std.specs.Prelude.{Result, IfOk, is_none}
 use Rattle.std.proofs.lemmas.Bool.{le-leb}
 use Rattle.glacier_http.specs.declared.reply.Reply.{Reply}
@@ -13,6 +13,7 @@ use Rattle.glacier_machine.specs.declared.action.Action.TheVariants.{CreateVault
 use Rattle.glacier_vault.specs.Deletions.{delete_row, deletion_refusal}
 use Rattle.glacier_replies.specs.Replies.{described}
 use Rattle.glacier_vault.specs.Account.{new_vault}
+use Rattle.glacier_vault.specs.Accounts.{Accounts, account_in}
 use Rattle.glacier_vault.specs.Named.{blobs_of}
 use Rattle.glacier_vault.specs.Rows.{Row, changed, changed_freeing, create_row, found, no_change, with_vaults}
 use Rattle.glacier_vault.specs.declared.event.Change.{Change}
@@ -25,8 +26,11 @@ use Rattle.glacier_vault.specs.declared.state.AccountState.{AccountState}
 use Rattle.glacier_vault.specs.declared.state.VaultState.{VaultState}
 use Rattle.glacier_vault.specs.declared.vault.TheConstants.{MOST_VAULTS}
 use Rattle.glacier_replay.specs.Changes.{body_in}
-use Rattle.glacier_replay.specs.Replayed.{Replay, after_event, where_fits, with_found}
-use Rattle.glacier_store.specs.HoldingSteps.{IsMadeBy}
+use Rattle.glacier_replay.specs.Replayed.{Replay, after_event, replayed, where_fits, with_found}
+use Rattle.glacier_replay.proofs.BlobMaps.{is_account}
+use Rattle.glacier_replay.proofs.SettledLemmas.{account_after}
+use Rattle.glacier_store.specs.HoldingSteps.{HasPassed, IsChangeOf, IsMadeBy, accounts_after, change_events, time_events}
+use Rattle.glacier_store.proofs.ChangeLemmas.{after_change}
 
 -- an event without a body that fits at a moment makes what it does
 made : (before : AccountState) (m : ℕ) (event : Event) (after : AccountState) (freed : List ℕ) → before.last ≤ m → body_in event ≡ None
@@ -115,3 +119,37 @@ pub aged_made : (m : ℕ) (before after : AccountState) (change : Change) → be
 aged_made m before after change time change_is after_is =
     subst (λ (s : AccountState). IsMadeBy before m change s) (sym after_is)
     (subst (λ (c : Change). IsMadeBy before m c (after_moment m before)) (sym change_is) (moment_made m before time))
+
+-- where nothing is due no event is made
+pub no_time : (k : List ℕ) (m : ℕ) (accounts : Accounts) → pass_is_event m (account_in accounts k) ≡ false → time_events k m accounts ≡ []
+no_time k m accounts is = ap (λ (b : Bool). change_events k m (cond b (pass_change m (account_in accounts k)) no_change)) is
+
+first_same : (one other : AccountState) (xs ys : List ℕ) → ◌≡◌ {A = Replay} (Some (one, xs)) (Some (other, ys)) → one ≡ other
+first_same one other xs ys is = ap (λ (r : Replay). elim r as (λ _. AccountState) [ None ↦ one | Some p ↦ p.0 ]) is
+
+-- what time makes of the accounts
+pub has_passed : (before after : Accounts) (k : List ℕ) (m : ℕ) (change : Change) → change ≡ moment_change m (account_in before k) → IsChangeOf before after k m change
+    → (account_in before k).last ≤ m → HasPassed before after k m
+has_passed before after k m change is changes time =
+    let by_time : IsChangeOf before after k m (moment_change m (account_in before k)) = subst (λ (c : Change). IsChangeOf before after k m c) is changes in
+    record {
+      after_is = subst (λ (c : Change). after ≡ accounts_after before (change_events k m c)) is (after_change before after k m change.event change.freed changes);
+      last = at (pass_is_event m (account_in before k)) by_time;
+    }
+  where
+    inserted : (b : Bool) (becomes : AccountState) → becomes.last ≤ m → (cond b becomes (account_in before k)).last ≤ m
+    inserted true becomes low = low
+    inserted false becomes low = time
+
+    passed_to : (becomes : AccountState) (freed_here : List ℕ) → replayed (account_in before k) m events.Pass ≡ Some (becomes, freed_here) → becomes.last ≤ m
+    passed_to becomes freed_here change_is =
+        let low : (pass m (account_in before k)).last ≤ m = omega arith in
+        let its : ◌≡◌ {A = Replay} (Some (pass m (account_in before k), freed m (account_in before k))) (Some (becomes, freed_here)) = sym (ap (λ (b : Bool). cond b (after_event (account_in before k) m events.Pass) None) (le-leb (account_in before k).last m time)) ∙ change_is in
+        let same : pass m (account_in before k) ≡ becomes = first_same (pass m (account_in before k)) becomes (freed m (account_in before k)) freed_here its in
+        subst (λ (s : AccountState). s.last ≤ m) same low
+
+    at : (b : Bool) → IsChangeOf before after k m (cond b (record { event = cond b (Some events.Pass) None; freed = freed m (account_in before k) }) no_change) → (account_in after k).last ≤ m
+    at true changed_by =
+        subst (λ (s : AccountState). s.last ≤ m) (sym (ap (λ (all : Accounts). account_in all k) changed_by.1.after_is ∙ account_after before k changed_by.1.becomes k))
+        (inserted (is_account k k) changed_by.1.becomes (passed_to changed_by.1.becomes (freed m (account_in before k)) changed_by.1.change))
+    at false same = subst (λ (all : Accounts). (account_in all k).last ≤ m) (sym same) time

@@ -7,6 +7,7 @@ pub mod Held
 pub mod HoldingCalls
 pub mod Outputs
 pub mod PolicyCode
+pub mod Quotas
 pub mod Replayed
 pub mod Stands
 pub mod StateCode

@@ -47,18 +47,14 @@ impl Holding {
             journal,
         } = self;
         let answer = acted(&mut accounts, alloc, rules, m, action)?;
-        let holding = keep_change(
-            Holding {
-                accounts,
-                area,
-                journal,
-            },
-            alloc,
-            disk,
-            &rules.account,
-            m,
-            &answer.change,
-        )?;
-        Ok((holding, answer))
+        let holding = Holding {
+            accounts,
+            area,
+            journal,
+        };
+        match keep_change(holding, alloc, disk, &rules.account, m, &answer.change) {
+            Ok(holding) => Ok((holding, answer)),
+            Err(fault) => Err(fault),
+        }
     }
 }

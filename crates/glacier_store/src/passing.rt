@@ -9,19 +9,7 @@ use crate::changed::{aged, keep_change};
 use crate::{Holding, StoreFault};
 use glacier_base::{Account, Moment};
 use glacier_disk::Disk;
-use glacier_job::is_due;
-use glacier_replay::Accounts;
 use std::alloc::Global;
-
-/// Whether the moment `m` settles or ends something in an account.
-fn is_due_in(accounts: &Accounts, account: &Account, m: Moment) -> bool
-    ensures { result ≡ pass_is_event m (account_in accounts.now account.now) }
-{
-    match accounts.get(account) {
-        Some(state) => is_due(state, m),
-        None => false,
-    }
-}
 
 impl Holding {
     /// Lets time pass for an account until the moment `m`, before what is asked for at `m` is done:
@@ -52,7 +40,7 @@ impl Holding {
         ensures call { StoreCall (D.told disk.old) (D.told disk.new) result }
         ensures alone { D.by_disk disk.old disk.new }
     {
-        if !is_due_in(&self.accounts, account, m) {
+        if !self.accounts.is_due(account, m) {
             return Ok(self);
         }
         let Holding {
@@ -61,17 +49,11 @@ impl Holding {
             journal,
         } = self;
         let change = aged(&mut accounts, alloc, account, m)?;
-        keep_change(
-            Holding {
-                accounts,
-                area,
-                journal,
-            },
-            alloc,
-            disk,
-            account,
-            m,
-            &change,
-        )
+        let holding = Holding {
+            accounts,
+            area,
+            journal,
+        };
+        keep_change(holding, alloc, disk, account, m, &change)
     }
 }

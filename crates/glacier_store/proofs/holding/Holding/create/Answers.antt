@@ -16,8 +16,18 @@ returns-in-Ok-clause-founds g c t =
       empty = made.empty;
       not_empty = λ area size is. absurd (cc is);
       untouched = λ full. absurd (full made.empty);
-      length = c.in-Ok.ensures.length;
     }
 
 pub invariant_of-result : goal.invariant_of-result
 invariant_of-result g c = record { drawn = none_drawn c.empty.result c.in_ok-area.area.blobs c.in_ok-area.ensures.blobs }
+
+pub returns-in-Ok-clause-nothing : goal.returns-in-Ok-clause-nothing
+returns-in-Ok-clause-nothing g c =
+    let area = c.in_ok-area.area in
+    let none = c.in_ok-area.ensures.blobs in
+    record {
+      accounts = c.empty.ensures;
+      blobs = none;
+      rest = new_rest area.free area.blobs c.in_ok-area.ensures.free none;
+      length = c.in-Ok.ensures.length;
+    }
