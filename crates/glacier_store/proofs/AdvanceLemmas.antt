@@ -1,20 +1,18 @@
 -- A holding goes on by the event of a change, or stays where there is none.
-use Rattle.std.proofs.Common.{◌≡◌, ℕ, ◌+◌, ◌<◌, ◌≤◌, ◌^◌, List, [], ◌∷◌, Option, Some, None, Ok, Err, refl, sym, ◌∙◌, ap, subst, arith, inl, inr}
+use Rattle.std.proofs.Common.{◌≡◌, ℕ, List, [], ◌∷◌, Option, Some, None, Ok, Err, refl, sym, subst, arith, inl, inr}
 use Rattle.std.specs.FinMap as map
-use Rattle.std.specs.Prelude.{Result, IfOk, OnOk, IsErrOf}
+use Rattle.std.specs.Prelude.{Result}
 use Rattle.std.proofs.lemmas.Result.{IfOk-weaker, on_ok_weaker}
-use Rattle.glacier_bodies.specs.BlobAreas.{AreaState}
 use Rattle.glacier_disk.specs.Moments.{Looks, looks_start, weaker}
 use Rattle.glacier_disk.specs.Told.{Told, Lawful}
 use Rattle.glacier_disk.proofs.TouchesLemmas.{touches_start}
 use Rattle.glacier_journal.specs.declared.journal.Journal.{Journal}
-use Rattle.glacier_vault.specs.Accounts.{AccountEvent, Accounts, account_in}
+use Rattle.glacier_vault.specs.Accounts.{AccountEvent, Accounts}
 use Rattle.glacier_vault.specs.declared.event.Change.{Change}
 use Rattle.glacier_vault.specs.declared.event.Event.{Event}
 use Rattle.glacier_replay.specs.Changes.{State, after_account_event, after_all}
-use Rattle.glacier_store.specs.Held.{IsHeldBy, IsKept}
 use Rattle.glacier_store.specs.HoldingCalls.{IsEventOf, Keeps, Lengthens, event_at, record_room}
-use Rattle.glacier_store.specs.HoldingSteps.{Advances, GrowsBy, IsChangeOf, change_events, holding_left, room_of}
+use Rattle.glacier_store.specs.HoldingSteps.{Advances, GrowsBy, IsChangeOf, change_events, room_of}
 use Rattle.glacier_store.specs.declared.fault.StoreFault.{StoreFault}
 use Rattle.glacier_store.specs.declared.fault.StoreFault.TheVariants as fault
 use Rattle.glacier_store.specs.declared.holding.Holding.{Holding}

@@ -1,9 +1,9 @@
 -- What a change makes of all accounts, and what is kept of it.
 use Rattle.std.specs.FinMap as map
-use Rattle.std.proofs.Common.{◌≡◌, ℕ, ◌+◌, ◌<◌, ◌≤◌, Bool, true, false, cond, ◌||◌, List, [], ◌∷◌, Option, Some, None, Ok, Err, refl, sym, ◌∙◌, ap, subst, arith, inl, inr}
+use Rattle.std.proofs.Common.{◌≡◌, ℕ, Bool, true, false, cond, ◌||◌, List, [], Option, Some, None, refl, sym, ◌∙◌, ap, subst}
 use Rattle.std.specs.Option.{is_some}
-use Rattle.std.specs.Prelude.{IfSome, IsSome, Result, IfOk, OnOk}
-use Rattle.glacier_vault.specs.Accounts.{AccountEvent, Accounts, account_in}
+use Rattle.std.specs.Prelude.{IfSome, IsSome}
+use Rattle.glacier_vault.specs.Accounts.{Accounts, account_in}
 use Rattle.glacier_vault.specs.Lawful.{IsLawful}
 use Rattle.glacier_vault.specs.declared.event.Change.{Change}
 use Rattle.glacier_vault.specs.declared.event.Event.{Event}
@@ -12,7 +12,7 @@ use Rattle.glacier_bodies.specs.Stands.{Layouts}
 use Rattle.glacier_replay.specs.Changes.{accounts_after as after_one, body_in}
 use Rattle.glacier_replay.specs.Replayed.{Replay, replayed}
 use Rattle.glacier_store.specs.Drawn.{AreDrawn}
-use Rattle.glacier_store.specs.HoldingCalls.{IsEventOf, event_at}
+use Rattle.glacier_store.specs.HoldingCalls.{event_at}
 use Rattle.glacier_store.specs.HoldingSteps.{IsChangeOf, IsMadeBy, accounts_after, change_events}
 use Rattle.glacier_store.proofs.AccountLemmas.{put_back}
 use Rattle.glacier_store.proofs.EventOfLemmas.{drawn_on}
@@ -38,21 +38,24 @@ module _ (accounts : Accounts) (k : List ℕ) (m : ℕ) where
       ap (put_if after) (or_false (map.contains_key accounts k))
       ∙ ap (λ (s : AccountState). put_if s (map.contains_key accounts k)) made
       ∙ put_back accounts k (map.get accounts k) refl
-  put (Some event) freed after lawful made = (made.0, record {
-    lawful = lawful;
-    becomes = after;
-    change = made.1;
-    after_is = ap (put_if after) (or_true (map.contains_key accounts k)) ∙ put_over accounts k after;
-  })
+  put (Some event) freed after lawful made = (
+    made.0,
+    record {
+      lawful = lawful;
+      becomes = after;
+      change = made.1;
+      after_is = ap (put_if after) (or_true (map.contains_key accounts k)) ∙ put_over accounts k after;
+    },
+  )
 
   pub changed_accounts : (before after : AccountState) (change : Change) (keep : Bool) (taken new : Accounts) → taken ≡ map.remove accounts k
       → before ≡ account_in accounts k → IsLawful before → IsMadeBy before m change after → keep ≡ (map.contains_key accounts k || is_some change.event)
       → new ≡ cond keep (map.insert taken k after) taken → IsChangeOf accounts new k m change
   changed_accounts before after change keep taken new took was lawful made keeps put_is =
       let new_is : new ≡ put_if after (map.contains_key accounts k || is_some change.event) =
-          put_is
-          ∙ ap (λ (b : Bool). cond b (map.insert taken k after) taken) keeps
-          ∙ ap (λ (t : Accounts). cond (map.contains_key accounts k || is_some change.event) (map.insert t k after) t) took in
+      put_is
+      ∙ ap (λ (b : Bool). cond b (map.insert taken k after) taken) keeps
+      ∙ ap (λ (t : Accounts). cond (map.contains_key accounts k || is_some change.event) (map.insert t k after) t) took in
       subst (λ (all : Accounts). IsChangeOf accounts all k m change) (sym new_is)
       (put change.event change.freed after (subst IsLawful was lawful) (subst (λ (b : AccountState). IsMadeBy b m change after) was made))
 

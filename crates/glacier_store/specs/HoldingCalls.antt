@@ -5,7 +5,7 @@ use Rattle.glacier_bodies.specs.BlobAreas.{AreaState, IsOpen}
 use Rattle.glacier_bodies.specs.Blobs.{IsApart}
 use Rattle.glacier_bodies.specs.Bodies.{HasTaken, body_runs}
 use Rattle.glacier_bodies.specs.declared.body.Body.{Body}
-use Rattle.glacier_bodies.specs.Stands.{Layouts}
+use Rattle.glacier_bodies.specs.Stands.{AreApart, Layouts}
 use Rattle.glacier_disk.specs.declared.area.Area.{Area}
 use Rattle.glacier_disk.specs.Moments.{Looks}
 use Rattle.glacier_disk.specs.Told.{Told}
@@ -22,8 +22,8 @@ use Rattle.glacier_vault.specs.Lawful.{IsLawful}
 use Rattle.glacier_vault.specs.declared.event.Event.{Event}
 use Rattle.glacier_vault.specs.declared.state.AccountState.{AccountState}
 use Rattle.glacier_vault.specs.Accounts.{Accounts, account_in, AccountEvent}
-use Rattle.glacier_replay.specs.Changes.{State, change_in}
-use Rattle.glacier_replay.specs.Made.{record_of}
+use Rattle.glacier_replay.specs.Changes.{State, change_in, without_blobs}
+use Rattle.glacier_replay.specs.Made.{IsRest, record_of}
 use Rattle.glacier_replay.specs.Standing.{Stands}
 use Rattle.glacier_store.specs.Held.{Becomes, IsHeldBy, IsKept, IsRestBeside, ReadsAs, Refuses, Remains}
 use Rattle.glacier_store.specs.declared.fault.StoreFault.{StoreFault}
@@ -73,6 +73,11 @@ pub record Keeps (old new : Told) (journal : Journal) (area : AreaState) (own : 
   pub kept : IsHeldBy old journal area.blobs before → IsRestBeside own area.free area.blobs
       → IfOk result (λ holding. IsKept new holding after)
   pub touches : Touches journal.area old new
+
+-- blobs of an account went, each other blob stays where it was, and all blocks that no blob has are free if they were
+pub record HasFreed (old new : AreaState) (account numbers : List ℕ) : Type 0 where
+  pub blobs : new.blobs ≡ without_blobs old.blobs account numbers
+  pub rest : AreApart old.blobs → IsRest old.free old.blobs → IsRest new.free new.blobs
 
 -- the bytes that an event's record takes in the journal
 abbrev pub record_room : AccountEvent → List Run → ℕ

@@ -1,6 +1,6 @@
 // Keeping an event of a holding in its journal.
 ghost use Rattle.std.specs.Prelude.{◌≡◌, ◌≤◌, ◌<◌, ◌+◌, ◌++◌, [], ◌∷◌, ℕ, List as Items, None, true, IsTrue, IsSome, IsErrOf, IfOk, length};
-ghost use Rattle.glacier_bodies.specs.BlobAreas.{IsOpen};
+ghost use Rattle.glacier_bodies.specs.BlobAreas.{IsOpen, with_blob};
 ghost use Rattle.glacier_bodies.specs.Blobs.{Holds};
 ghost use Rattle.glacier_bodies.specs.Stands.{AreApart, at_blob};
 ghost use Rattle.glacier_disk.specs.declared.area.Area.TheVariants.{Blobs};
@@ -17,7 +17,7 @@ ghost use Rattle.glacier_replay.specs.Made.{IsRest, record_of};
 ghost use Rattle.glacier_replay.specs.Replayed.{replayed};
 ghost use Rattle.glacier_vault.specs.declared.state.AccountState.{AccountState};
 ghost use Rattle.glacier_store.specs.Calls.{StoreCall};
-ghost use Rattle.glacier_store.specs.HoldingCalls.{IsEventOf, Keeps, Lengthens, event_at, record_room};
+ghost use Rattle.glacier_store.specs.HoldingCalls.{HasFreed, IsEventOf, Keeps, Lengthens, event_at, record_room};
 
 use crate::{Holding, StoreFault};
 use glacier_base::{Account, List, Memory, Moment};
@@ -125,6 +125,8 @@ impl Holding {
         requires fits { (a : AccountState) × IsSome (replayed a m event.now) }
 
         ensures accounts { IfOk result (λ done. done.accounts ≡ self.accounts) }
+        ensures area { IfOk result (λ done.
+            HasFreed self.area done.area account.now freed.now) }
         ensures keeps { IsTrue D.tells → (before : State) →
             IsEventOf before.accounts self.accounts (event_at account.now m event.now []) freed.now →
             Keeps (D.told disk.old) (D.told disk.new) self.journal self.area [] before
@@ -164,6 +166,10 @@ impl Holding {
         requires drawn { number < (account_in self.accounts account.now).counter }
 
         ensures accounts { IfOk result (λ done. done.accounts ≡ self.accounts) }
+        ensures area { IfOk result (λ done. HasFreed (record {
+          free = self.area.free;
+          blobs = with_blob self.area.blobs account.now number layout;
+        }) done.area account.now freed.now) }
         ensures keeps { IsTrue D.tells → (before : State) (body : Items ℕ) →
             IsEventOf before.accounts self.accounts (event_at account.now m event.now body) freed.now →
             number ≡ (account_in before.accounts account.now).counter →

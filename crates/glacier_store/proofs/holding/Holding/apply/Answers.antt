@@ -1,4 +1,4 @@
-use Rattle.std.proofs.Common.{◌≡◌, rules, Err, Ok, List, sym, ap, subst}
+use Rattle.std.proofs.Common.{◌≡◌, rules, Err, Ok, ap, subst}
 use Rattle.std.specs.Prelude.{Result}
 use Rattle.glacier_machine.specs.declared.action.Answer.{Answer}
 use Rattle.glacier_store.specs.HoldingSteps.{Advances, action_events, change_events, holding_left}

@@ -1,4 +1,4 @@
-use Rattle.std.proofs.Common.{◌≡◌, ◌∙◌, rules, Err, List, false, sym, subst}
+use Rattle.std.proofs.Common.{◌≡◌, ◌∙◌, rules, Err, false, sym, subst}
 use Rattle.std.proofs.lemmas.Result.{IfOk-weaker}
 use Rattle.std.specs.Prelude.{Result}
 use Rattle.glacier_vault.specs.Accounts.{Accounts}
