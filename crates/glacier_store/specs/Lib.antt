@@ -5,6 +5,7 @@ pub mod Events
 pub mod Faults
 pub mod Held
 pub mod HoldingCalls
+pub mod HoldingSteps
 pub mod Outputs
 pub mod PolicyCode
 pub mod Quotas

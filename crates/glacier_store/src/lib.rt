@@ -14,6 +14,8 @@ pub mod laws;
 mod opening;
 pub mod output_laws;
 mod outputs;
+mod passing;
+mod quotas;
 mod replaying;
 mod store;
 mod streaming;
