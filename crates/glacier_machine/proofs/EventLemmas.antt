@@ -6,7 +6,8 @@ use Rattle.glacier_http.specs.Messages.{Message, good, bad}
 use Rattle.glacier_http.specs.View.{HeadText, text_of}
 use Rattle.glacier_machine.specs.ContentHash.{named_hashes, need_refusal}
 use Rattle.glacier_machine.specs.Outcomes.{action_outcome, events_of, moment_of, outcome_events, request_outcome, rules_of, one}
-use Rattle.glacier_machine.specs.AccountSteps.{asked_step, after_pass, pass_event}
+use Rattle.glacier_machine.specs.AccountSteps.{asked_step}
+use Rattle.glacier_machine.specs.Moments.{after_moment, moment_change}
 use Rattle.glacier_machine.specs.SignedRequests.{signer_of, asked_by, needed_request, request_in}
 use Rattle.glacier_machine.specs.Verified.{IsSignedBy}
 use Rattle.glacier_machine.specs.declared.action.Request.{Request}
@@ -41,12 +42,12 @@ request_holds : (P : List ℕ → Type 0) (rules : Rules) (before : AccountState
     → All (λ (e : AccountEvent). P e.account) (outcome_events (action_outcome rules before request reading))
 request_holds P rules before request reading holds =
     let m = moment_of before reading in
-    All-append (λ (e : AccountEvent). P e.account) (events_of request.account m (pass_event m before))
+    All-append (λ (e : AccountEvent). P e.account) (events_of request.account m (moment_change m before).event)
     (events_of request.account m
-    (asked_step rules m request.asked (after_pass m before)).answer.change.event)
-    (events_hold P request.account m (pass_event m before) holds)
+    (asked_step rules m request.asked (after_moment m before)).answer.change.event)
+    (events_hold P request.account m (moment_change m before).event holds)
     (events_hold P request.account m
-    (asked_step rules m request.asked (after_pass m before)).answer.change.event holds)
+    (asked_step rules m request.asked (after_moment m before)).answer.change.event holds)
 
 pub events_are_signed : (config : Config) (accounts : Accounts) (message : Message) (reading : ℕ)
     → All (λ (e : AccountEvent). IsSignedBy config message reading e.account)
@@ -77,7 +78,7 @@ module _ (rules : Rules) (before : AccountState) (request : Request) (reading : 
   -- a refused request has no event of its own
   pub refused_does_nothing : (action_outcome rules before request reading).done ≡ []
   refused_does_nothing =
-      ap (λ asked. events_of request.account m (asked_step rules m asked (after_pass m before)).answer.change.event) is
+      ap (λ asked. events_of request.account m (asked_step rules m asked (after_moment m before)).answer.change.event) is
 
   pub refused_gets_its_reply : (action_outcome rules before request reading).reply ≡ refused refusal
-  refused_gets_its_reply = ap (λ asked. (asked_step rules m asked (after_pass m before)).answer.reply) is
+  refused_gets_its_reply = ap (λ asked. (asked_step rules m asked (after_moment m before)).answer.reply) is

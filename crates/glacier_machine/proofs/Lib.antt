@@ -1,7 +1,6 @@
 pub mod AsciiLemmas
 pub mod AskLemmas
 pub mod EventLemmas
-pub mod Fitting
 pub mod HeaderLemmas
 pub mod JobLemmas
 pub mod OutputLemmas

@@ -7,7 +7,7 @@ use Rattle.glacier_vault.specs.declared.refusal.Refusal.{Refusal}
 use Rattle.glacier_vault.specs.declared.state.AccountState.{AccountState}
 use Rattle.glacier_vault.specs.Rows.{Row, answer, no_change, state_after}
 use Rattle.glacier_machine.specs.declared.action.Answer.{Answer}
-use Rattle.glacier_machine.specs.AccountSteps.{Step, only_replies, by_row, by_look, after_change}
+use Rattle.glacier_machine.specs.AccountSteps.{Step, only_replies, by_row, by_look}
 use Rattle.glacier_replies.specs.Replies.{refused}
 
 same_refusal : (one other : Refusal) → (let r : Result Change Refusal = Err one in let s : Result Change Refusal = Err other in r ≡ s) → one ≡ other
@@ -60,10 +60,3 @@ on_ok_of (Err e) p = tt
 pub on_err_of : {X E P : Type 0} (r : Result X E) → P → OnErr r P
 on_err_of (Ok x) p = tt
 on_err_of (Err e) p = p
-
--- a step whose event makes its state
-pub event_of_step : {E : Type 0} (m : ℕ) (before left : AccountState) (step : Step) (r : Result Answer E)
-    → IfOk r (λ given. given ≡ step.answer) → OnOk r (left ≡ step.state) → step.state ≡ after_change m before step.answer.change.event
-    → IfOk r (λ given. left ≡ after_change m before given.change.event)
-event_of_step m before left step (Ok given) is state event = state ∙ event ∙ sym (ap (λ (a : Answer). after_change m before a.change.event) is)
-event_of_step m before left step (Err e) is state event = tt

@@ -1,6 +1,5 @@
--- One message, and a run over messages and readings of the clock.
+-- What one message brings about, at a reading of the clock.
 use Rattle.std.specs.Prelude.{ℕ, List, [], ◌∷◌, ◌++◌, Option, Some, None, Result, Ok, Err, max}
-use Rattle.std.specs.FinMap as map
 use Rattle.glacier_http.specs.declared.reply.Reply.{Reply}
 use Rattle.glacier_http.specs.Messages.{Message, good, bad}
 use Rattle.glacier_http.specs.View.{text_of}
@@ -12,20 +11,11 @@ use Rattle.glacier_vault.specs.declared.state.AccountState.{AccountState}
 use Rattle.glacier_vault.specs.Accounts.{Accounts, account_in, AccountEvent}
 use Rattle.glacier_machine.specs.declared.action.Request.{Request}
 use Rattle.glacier_machine.specs.declared.config.Config.{Config}
-use Rattle.glacier_machine.specs.AccountSteps.{Step, asked_step, after_event, pass_event, after_pass}
+use Rattle.glacier_machine.specs.AccountSteps.{Step, asked_step}
+use Rattle.glacier_machine.specs.Moments.{after_moment, moment_change}
 use Rattle.glacier_replies.specs.Refusals.{head_refusal}
 use Rattle.glacier_replies.specs.Replies.{refused}
 use Rattle.glacier_machine.specs.SignedRequests.{request_in}
-
--- the accounts after an event
-abbrev pub after_account_event : Accounts → AccountEvent → Accounts
-after_account_event accounts h =
-    map.insert accounts h.account (after_event h.moment (account_in accounts h.account) h.event)
-
--- the accounts after events in order
-abbrev pub after_all : Accounts → List AccountEvent → Accounts
-after_all accounts [] = accounts
-after_all accounts (h ∷ more) = after_all (after_account_event accounts h) more
 
 -- what a message brings about
 pub record Outcome : Type 0 where
@@ -63,8 +53,8 @@ moment_of before reading = max before.last reading
 -- the outcome of a request at the moment m: time passes until then, and the step is on the account that this leaves
 abbrev pub outcome_at : Rules → ℕ → Request → AccountState → Outcome
 outcome_at rules m request before =
-    step_outcome request.account m (events_of request.account m (pass_event m before))
-    (asked_step rules m request.asked (after_pass m before))
+    step_outcome request.account m (events_of request.account m (moment_change m before).event)
+    (asked_step rules m request.asked (after_moment m before))
 
 -- the outcome of a request where the account's state is this
 abbrev pub action_outcome : Rules → AccountState → Request → ℕ → Outcome
@@ -90,16 +80,3 @@ abbrev pub one : Config → Accounts → Message → ℕ → Outcome
 one config accounts (good head body) reading =
     request_outcome config accounts (request_in config (text_of head) body reading) reading
 one config accounts (bad cause) reading = refusal_outcome (head_refusal cause)
-
--- the outcomes of messages in order, each at its own reading; one without a reading isn't run
-abbrev pub run : Config → Accounts → List Message → List ℕ → List Outcome
-run config accounts [] readings = []
-run config accounts (message ∷ messages) [] = []
-run config accounts (message ∷ messages) (reading ∷ readings) =
-    one config accounts message reading
-    ∷ run config (after_all accounts (outcome_events (one config accounts message reading))) messages readings
-
--- the events of a run, in order
-abbrev pub events : List Outcome → List AccountEvent
-events [] = []
-events (outcome ∷ more) = outcome_events outcome ++ events more

@@ -12,7 +12,7 @@ ghost use Rattle.glacier_upload.specs.declared.asks.Found.{Found};
 ghost use Rattle.glacier_upload.specs.declared.asks.UploadAsk.{UploadAsk};
 ghost use Rattle.glacier_vault.specs.Lawful.{IsLawful};
 ghost use Rattle.glacier_vault.specs.Rows.{answer};
-ghost use Rattle.glacier_machine.specs.AccountSteps.{step_of, fits, only_replies};
+ghost use Rattle.glacier_machine.specs.AccountSteps.{only_replies};
 ghost use Rattle.glacier_job.specs.Work.{HasOrderedRange};
 ghost use Rattle.glacier_requests.specs.JobBodies.{job_body_of};
 ghost use Rattle.glacier_requests.specs.declared.jobs.JobBody.{JobBody};
@@ -25,7 +25,6 @@ ghost use Rattle.glacier_machine.specs.Paths.{AsksFor};
 ghost use Rattle.glacier_vault.specs.Accounts.{Accounts};
 ghost use Rattle.glacier_machine.specs.Routes.{route_of};
 ghost use Rattle.glacier_machine.specs.Verified.{IsSignedBy};
-ghost use Rattle.glacier_machine.specs.declared.action.Action.{Action as RequestedAction};
 ghost use Rattle.glacier_machine.specs.declared.action.Request.{Request as RequestMade};
 ghost use Rattle.glacier_machine.specs.declared.config.Config.{Config as ServiceConfig};
 ghost use Rattle.glacier_machine.specs.declared.routes.Route.{Route as HeadRoute};
@@ -49,13 +48,6 @@ pub fn refused_requests_only_pass()
     ensures reply { (rules : AccountRules) (before : Account) (request : RequestMade) (reading : ℕ)
         (refusal : Refusal) → request.asked ≡ Err refusal
         → (action_outcome rules before request reading).reply ≡ refused refusal }
-{}
-
-/// The event of a step fits the account that the step was done on.
-pub fn step_fits()
-    ensures { (rules : AccountRules) (m : ℕ) (action : RequestedAction) (before : Account) → before.last ≤ m
-        → IfSome (step_of rules m action before).answer.change.event
-        (λ event. IsTrue (fits m before event)) }
 {}
 
 /// A head has exactly the route that its method and path ask for. It is BadName exactly where they

@@ -3,9 +3,9 @@ use Rattle.std.specs.Prelude.{◌≡◌, ◌⊎◌, ℕ, ◌≤◌, List, [], �
 use Rattle.glacier_disk.specs.Image.{Image}
 use Rattle.glacier_disk.specs.Network.{on_last, sent_on}
 use Rattle.glacier_disk.specs.Told.{Told}
-use Rattle.glacier_machine.specs.Outcomes.{after_all}
-use Rattle.glacier_vault.specs.Accounts.{Accounts, AccountEvent}
-use Rattle.glacier_store.specs.Stands.{Stands}
+use Rattle.glacier_replay.specs.Changes.{State, after_all}
+use Rattle.glacier_replay.specs.Standing.{Stands}
+use Rattle.glacier_vault.specs.Accounts.{AccountEvent}
 
 -- a connection is accepted, a byte is sent on the last one, or an event is kept
 pub data Act : Type 0 where
@@ -41,12 +41,12 @@ sent_by (send b ∷ acts) sent = sent_by acts (on_last (b ∷ []) sent)
 sent_by (keep h ∷ acts) sent = sent_by acts sent
 
 -- the state after their events
-abbrev pub after_acts : Accounts → List Act → Accounts
+abbrev pub after_acts : State → List Act → State
 after_acts state acts = after_all state (events_in acts)
 
 -- a crash behind the first k acts: just their bytes had been sent, and the image stands for the state after their
 -- events
-pub record StopsAfter (before : List (List ℕ)) (state : Accounts) (acts : List Act) (i : Image) (sent : List (List ℕ))
+pub record StopsAfter (before : List (List ℕ)) (state : State) (acts : List Act) (i : Image) (sent : List (List ℕ))
     : Type 0 where
   pub k : ℕ
   pub bytes : sent ≡ sent_by (take k acts) before
@@ -54,7 +54,7 @@ pub record StopsAfter (before : List (List ℕ)) (state : Accounts) (acts : List
 
 -- a crash at any moment of some calls, inside a call too, is one behind some of their acts, and so is one right after
 -- the calls
-pub record StopsAmid (old new : Told) (state : Accounts) (acts : List Act) : Type 0 where
+pub record StopsAmid (old new : Told) (state : State) (acts : List Act) : Type 0 where
   pub later : old.moment ≤ new.moment
   pub now : (i : Image) → new.leaves i
       → StopsAfter (sent_on old.connections) state acts i (sent_on new.connections)

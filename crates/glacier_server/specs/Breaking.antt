@@ -15,8 +15,8 @@ use Rattle.glacier_server.specs.Served.{AnsweredPart, Part, IsPrompt}
 use Rattle.glacier_server.specs.Session.{Session, HeldWaiting, IsFront}
 use Rattle.glacier_server.specs.Transfer.{Transfer, current}
 use Rattle.glacier_server.specs.Turns.{Turn, turn_events, turn_interim, turn_passed}
-use Rattle.glacier_store.specs.declared.store.Store.{Store}
-use Rattle.glacier_vault.specs.Accounts.{Accounts}
+use Rattle.glacier_server.specs.Placed.{Placed}
+use Rattle.glacier_replay.specs.Changes.{State}
 
 -- what broke a connection off, by the count of the disk's faults: no accept did
 abbrev pub HasBroken : ServeFault → Told → Told → Type 0
@@ -31,49 +31,49 @@ ShowsDisk (Ok x) old new = new.disk_faults ≡ old.disk_faults
 ShowsDisk (Err fault) old new = HasBroken fault old new
 
 -- no byte of the reply to a turn is among these acts: at most those of its interim line are
-abbrev pub NoReplyTo : Config → Accounts → Turn → ℕ → List Act → Type 0
+abbrev pub NoReplyTo : Config → State → Turn → ℕ → List Act → Type 0
 NoReplyTo config state turn reading acts = IsFront (bytes_of acts) (turn_interim config state turn reading)
 
 -- what was done for a turn at a reading, from this store, before the server broke off: no byte of its reply was sent;
 -- for want of memory no event was kept but of time that passes, and where the journal was at its end, there was no room
 -- for the next of its events
-abbrev pub BrokenFor : Config → Store → Turn → ℕ → List Act → ServeFault → Type 0
-BrokenFor config store turn reading acts Disk = NoReplyTo config store.accounts turn reading acts
-BrokenFor config store turn reading acts Memory = NoReplyTo config store.accounts turn reading acts
-    × IsFront (events_in acts) (turn_passed config store.accounts turn reading)
-BrokenFor config store turn reading acts (JournalEnd length) = NoReplyTo config store.accounts turn reading acts
-    × EndsJournal store (turn_events config store.accounts turn reading) length
-BrokenFor config store turn reading acts Accept = ⊥
+abbrev pub BrokenFor : Config → Placed → Turn → ℕ → List Act → ServeFault → Type 0
+BrokenFor config placed turn reading acts Disk = NoReplyTo config placed.state turn reading acts
+BrokenFor config placed turn reading acts Memory = NoReplyTo config placed.state turn reading acts
+    × IsFront (events_in acts) (turn_passed config placed.state turn reading)
+BrokenFor config placed turn reading acts (JournalEnd length) = NoReplyTo config placed.state turn reading acts
+    × EndsJournal placed.store (turn_events config placed.state turn reading) length
+BrokenFor config placed turn reading acts Accept = ⊥
 
 -- they took what stands there, and the server broke off before its reply
 pub record BreaksOff (config : Config) (from : Standing) (old new : Told) (fault : ServeFault) : Type 0 where
   pub session : Session
-  pub starts : session.before ≡ from.store
+  pub starts : session.before ≡ from.placed
   pub transfer : Transfer old new session breaking
   pub part : AnswersPart config (exchange_on from [] [] session)
-  pub broken : BrokenFor config from.store part.turn part.reading session.acts fault
+  pub broken : BrokenFor config from.placed part.turn part.reading session.acts fault
   pub idle : HeldWaiting (wait_of (current old.connections)) session
       (λ till. Idles config (exchange_on from [] [] till))
 
 -- the same where there may be no turn: only memory was wanting then, and nothing was done
-abbrev pub LastBroken : Config → Store → Option (Turn × ℕ) → List Act → ServeFault → Type 0
-LastBroken config store None acts fault = (fault ≡ Memory) × (acts ≡ [])
-LastBroken config store (Some last) acts fault = BrokenFor config store last.0 last.1 acts fault
+abbrev pub LastBroken : Config → Placed → Option (Turn × ℕ) → List Act → ServeFault → Type 0
+LastBroken config placed None acts fault = (fault ≡ Memory) × (acts ≡ [])
+LastBroken config placed (Some last) acts fault = BrokenFor config placed last.0 last.1 acts fault
 
 -- what was done for the last turn, and why, before the server broke off, from the store that the messages before it left
 pub record BrokenBy (config : Config) (s : Session) (part : AnsweredPart config s) (fault : ServeFault) : Type 0 where
-  pub store : Store
-  pub state : store.accounts ≡ run config s.before.accounts part.messages s.readings
-  pub grew : Grew s.before store (out config 0 s.before.accounts part.messages s.readings)
+  pub placed : Placed
+  pub state : placed.state ≡ run config s.before.state part.messages s.readings
+  pub grew : Grew s.before placed (out config 0 s.before.state part.messages s.readings)
   pub acts : List Act
-  pub behind : s.acts ≡ out config 0 s.before.accounts part.messages s.readings ++ acts
-  pub broken : LastBroken config store part.last acts fault
+  pub behind : s.acts ≡ out config 0 s.before.state part.messages s.readings ++ acts
+  pub broken : LastBroken config placed part.last acts fault
 
 -- the server broke off: on the last connection all was done for the messages before the last turn, and for that what
 -- the fault says
-pub record PartLast (config : Config) (old new : Told) (store : Store) (fault : ServeFault) : Type 0 where
+pub record PartLast (config : Config) (old new : Told) (placed : Placed) (fault : ServeFault) : Type 0 where
   pub session : Session
-  pub starts : session.before ≡ store
+  pub starts : session.before ≡ placed
   pub transfer : Transfer old new session breaking
   pub part : Part config session
   pub broken : BrokenBy config session part.1 fault

@@ -3,12 +3,15 @@ use Rattle.std.specs.Prelude.{◌≡◌, ℕ, List, ◌++◌, take, Result, IfOk
 use Rattle.glacier_disk.specs.Image.{Image}
 use Rattle.glacier_disk.specs.Moments.{LeavesOnly}
 use Rattle.glacier_disk.specs.Told.{Told}
-use Rattle.glacier_machine.specs.Outcomes.{Outcome, after_all}
-use Rattle.glacier_vault.specs.Accounts.{Accounts, AccountEvent}
+use Rattle.glacier_machine.specs.Outcomes.{Outcome}
+use Rattle.glacier_replay.specs.Changes.{State, after_all}
+use Rattle.glacier_replay.specs.Standing.{Stands}
+use Rattle.glacier_vault.specs.Accounts.{AccountEvent}
 use Rattle.glacier_server.specs.declared.end.ServeFault.{ServeFault}
 use Rattle.glacier_server.specs.declared.end.ServeFault.TheVariants.{Disk, Memory, JournalEnd}
 use Rattle.glacier_server.specs.Rooms.{GrewBy, EndsJournal}
-use Rattle.glacier_store.specs.Stands.{Kept, Stands}
+use Rattle.glacier_store.specs.Kept.{Kept}
+use Rattle.glacier_store.specs.Steps.{accounts_after}
 use Rattle.glacier_store.specs.declared.fault.StoreFault.{StoreFault}
 use Rattle.glacier_store.specs.declared.fault.StoreFault.TheVariants as store
 use Rattle.glacier_store.specs.declared.store.Store.{Store}
@@ -30,12 +33,12 @@ IsFault (store.NotEmpty area size) fault = ⊥
 IsFault (store.End length) fault = fault ≡ JournalEnd length
 
 -- an image stands for the state after some first ones of these events
-pub record StandsForFirst (state : Accounts) (events : List AccountEvent) (i : Image) : Type 0 where
+pub record StandsForFirst (state : State) (events : List AccountEvent) (i : Image) : Type 0 where
   pub count : ℕ
   pub stands : Stands i (after_all state (take count events))
 
 -- at each moment since the start a crash leaves the state after some first ones of them
-abbrev pub KeepsFirst : Told → Told → Accounts → List AccountEvent → Type 0
+abbrev pub KeepsFirst : Told → Told → State → List AccountEvent → Type 0
 KeepsFirst old new state events = LeavesOnly old new (StandsForFirst state events)
 
 -- The events of the time that passed are kept, and then those of what is done, or the server breaks off. A crash
@@ -43,11 +46,11 @@ KeepsFirst old new state events = LeavesOnly old new (StandsForFirst state event
 -- journal was at its end, there was no room for the event behind those that were kept.
 pub record KeepsEvents {T : Type 0} (old new : Told) (store : Store) (passed done : List AccountEvent)
     (result : Result (T × Store) ServeFault) : Type 0 where
-  pub accounts : IfOk result (λ r. r.1.accounts ≡ after_all store.accounts (passed ++ done))
+  pub accounts : IfOk result (λ r. r.1.accounts ≡ accounts_after store.accounts (passed ++ done))
   pub grew : IfOk result (λ r. GrewBy store.journal.length r.1.journal.length (passed ++ done))
-  pub any_moment : Kept old store → KeepsFirst old new store.accounts (passed ++ done)
-  pub kept : Kept old store → IfOk result (λ r. Kept new r.1)
-  pub memory : Kept old store → IsErrOf result Memory → KeepsFirst old new store.accounts passed
+  pub any_moment : (state : State) → Kept old store state → KeepsFirst old new state (passed ++ done)
+  pub kept : (state : State) → Kept old store state → IfOk result (λ r. Kept new r.1 (after_all state (passed ++ done)))
+  pub memory : (state : State) → Kept old store state → IsErrOf result Memory → KeepsFirst old new state passed
   pub end : (length : ℕ) → IsErrOf result (JournalEnd length) → EndsJournal store (passed ++ done) length
 
 -- the events of an outcome are kept so

@@ -18,8 +18,8 @@ use Rattle.glacier_server.specs.Served.{failing_of}
 use Rattle.glacier_server.specs.Session.{Session, HeldWaiting}
 use Rattle.glacier_server.specs.Transfer.{Transfer, current}
 use Rattle.glacier_server.specs.Turns.{Turn, IsNext, turn_acts}
-use Rattle.glacier_vault.specs.Accounts.{Accounts}
-use Rattle.glacier_store.specs.declared.store.Store.{Store}
+use Rattle.glacier_replay.specs.Changes.{State}
+use Rattle.glacier_server.specs.Placed.{Placed}
 
 -- the end that is answered for the end of an input
 abbrev pub end_for : InputEnd → End
@@ -57,10 +57,10 @@ failing_on (Err e) = nothing
 pub record Standing : Type 0 where
   pub count : ℕ
   pub unread : List ℕ
-  pub store : Store
+  pub placed : Placed
 
-abbrev pub standing : ℕ → List ℕ → Store → Standing
-standing count unread store = record { count = count; unread = unread; store = store }
+abbrev pub standing : ℕ → List ℕ → Placed → Standing
+standing count unread placed = record { count = count; unread = unread; placed = placed }
 
 -- a bad head with this cause is next, behind so many messages
 abbrev pub BadStands : Standing → ℕ → BadHead → Type 0
@@ -73,8 +73,8 @@ pub record Exchange : Type 0 where
   pub input : List ℕ
   pub left : List ℕ
   pub coming : List ℕ
-  pub before : Accounts
-  pub after : Accounts
+  pub before : State
+  pub after : State
   pub acts : List Act
   pub readings : List ℕ
 
@@ -85,8 +85,8 @@ exchange_on from left coming s = record {
   input = from.unread ++ s.taken;
   left = left;
   coming = coming;
-  before = s.before.accounts;
-  after = s.after.accounts;
+  before = s.before.state;
+  after = s.after.state;
   acts = s.acts;
   readings = s.readings;
 }
@@ -137,8 +137,8 @@ IsExchange config x (Some SendFault) = AnswersPart config x
 pub record Exchanges (config : Config) (from to : Standing) (old new : Told) (end : Option End)
     : Type 0 where
   pub session : Session
-  pub starts : session.before ≡ from.store
-  pub leaves : session.after ≡ to.store
+  pub starts : session.before ≡ from.placed
+  pub leaves : session.after ≡ to.placed
   pub transfer : Transfer old new session (failing_at end)
   pub exchange : IsExchange config
       (exchange_on from to.unread (current new.connections).coming session) end

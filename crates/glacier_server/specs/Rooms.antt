@@ -1,6 +1,6 @@
 -- The room that events take in the journal.
 use Rattle.std.specs.Prelude.{◌≡◌, ℕ, ◌+◌, ◌<◌, ◌^◌, List, [], ◌∷◌, ◌++◌}
-use Rattle.glacier_store.specs.Events.{room_of}
+use Rattle.glacier_store.specs.Steps.{room_of}
 use Rattle.glacier_store.specs.declared.store.Store.{Store}
 use Rattle.glacier_vault.specs.Accounts.{AccountEvent}
 

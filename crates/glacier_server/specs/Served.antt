@@ -14,8 +14,8 @@ use Rattle.glacier_server.specs.Out.{run, out, Tells}
 use Rattle.glacier_server.specs.Session.{Session, HeldWaiting}
 use Rattle.glacier_server.specs.Transfer.{Transfer, current}
 use Rattle.glacier_server.specs.Turns.{Turn, IsNextOf, readings_for, acts_for}
-use Rattle.glacier_vault.specs.Accounts.{Accounts}
-use Rattle.glacier_store.specs.declared.store.Store.{Store}
+use Rattle.glacier_replay.specs.Changes.{State}
+use Rattle.glacier_server.specs.Placed.{Placed}
 
 -- the messages heard in the bytes were run at these readings, and all that is told was done
 pub record Runs (config : Config) (s : Session) (last : Option InputEnd) : Type 0 where
@@ -24,10 +24,10 @@ pub record Runs (config : Config) (s : Session) (last : Option InputEnd) : Type 
   pub hears : Hears 0 s.taken messages rest last
   pub enough : length messages ≤ length s.readings
   pub interim : List Act
-  pub tells : Tells config (run config s.before.accounts messages s.readings) rest
+  pub tells : Tells config (run config s.before.state messages s.readings) rest
       (drop (length messages) s.readings) interim
-  pub all : s.acts ≡ out config 0 s.before.accounts messages s.readings ++ interim
-  pub after_them : s.after.accounts ≡ after_acts (run config s.before.accounts messages s.readings) interim
+  pub all : s.acts ≡ out config 0 s.before.state messages s.readings ++ interim
+  pub after_them : s.after.state ≡ after_acts (run config s.before.state messages s.readings) interim
 
 -- the last message made the end, with one reading for each message
 pub record EndsLast (config : Config) (s : Session) (end : InputEnd) : Type 0 where
@@ -49,7 +49,7 @@ pub record EndsInput (config : Config) (s : Session) (coming : List ℕ) (end : 
   pub none_left : coming ≡ []
 
 -- what is to be done for these bytes, with these readings: for the messages heard in them
-pub record IsOut (config : Config) (taken readings : List ℕ) (state : Accounts) (acts : List Act)
+pub record IsOut (config : Config) (taken readings : List ℕ) (state : State) (acts : List Act)
     : Type 0 where
   pub messages : List Message
   pub rest : List ℕ
@@ -60,7 +60,7 @@ pub record IsOut (config : Config) (taken readings : List ℕ) (state : Accounts
   pub acts_are : acts ≡ out config 0 state messages readings ++ interim
 
 -- the same, where each of these messages has its reading
-pub record IsWholeOut (config : Config) (taken readings : List ℕ) (state : Accounts) (acts : List Act)
+pub record IsWholeOut (config : Config) (taken readings : List ℕ) (state : State) (acts : List Act)
     : Type 0 where
   pub is_out : IsOut config taken readings state acts
   pub enough : length is_out.messages ≤ length readings
@@ -68,7 +68,7 @@ pub record IsWholeOut (config : Config) (taken readings : List ℕ) (state : Acc
 -- what was done is a first part of it
 abbrev pub IsPartOfOut : Config → Session → Type 0
 IsPartOfOut config s =
-    (all undone : List Act) × IsOut config s.taken s.readings s.before.accounts all × (all ≡ s.acts ++ undone)
+    (all undone : List Act) × IsOut config s.taken s.readings s.before.state all × (all ≡ s.acts ++ undone)
 
 -- all was done for these messages, the first of those heard and each at its reading, and a first part for the turn
 -- that stands behind them, if it has a reading; nothing was done for a later one
@@ -81,9 +81,9 @@ pub record AnsweredPart (config : Config) (s : Session) : Type 0 where
   pub next : IsNextOf rest last
   pub read : drop (length messages) s.readings ≡ readings_for last
   pub count : ℕ
-  pub all : s.acts ≡ out config 0 s.before.accounts messages s.readings
-      ++ take count (acts_for config (length messages) (run config s.before.accounts messages s.readings) last)
-  pub after_is : s.after.accounts ≡ after_acts s.before.accounts s.acts
+  pub all : s.acts ≡ out config 0 s.before.state messages s.readings
+      ++ take count (acts_for config (length messages) (run config s.before.state messages s.readings) last)
+  pub after_is : s.after.state ≡ after_acts s.before.state s.acts
 
 abbrev pub Part : Config → Session → Type 0
 Part config s = IsPartOfOut config s × AnsweredPart config s
@@ -117,9 +117,9 @@ failing_to (Ok r) = failing_of r.0
 failing_to (Err e) = breaking
 
 -- the last connection was served to this end
-pub record ServedLast (config : Config) (old new : Told) (store after : Store) (end : End) : Type 0 where
+pub record ServedLast (config : Config) (old new : Told) (placed after : Placed) (end : End) : Type 0 where
   pub session : Session
-  pub starts : session.before ≡ store
+  pub starts : session.before ≡ placed
   pub leaves : session.after ≡ after
   pub transfer : Transfer old new session (failing_of end)
   pub served : Served config session (current new.connections).coming end

@@ -13,7 +13,7 @@ use Rattle.glacier_server.specs.Breaking.{BrokenBy}
 use Rattle.glacier_server.specs.Session.{Session}
 use Rattle.glacier_server.specs.Transfer.{Fails}
 use Rattle.glacier_server.specs.Does.{Does, Grew, nothing, breaking}
-use Rattle.glacier_store.specs.declared.store.Store.{Store}
+use Rattle.glacier_server.specs.Placed.{Placed}
 
 -- the session is all that was done on the connection
 pub record IsSessionOf (c : Connection) (s : Session) : Type 0 where
@@ -35,12 +35,12 @@ pub record ServedOne (config : Config) (c : Connection) (s : Session) : Type 0 w
   pub grew : Grew s.before s.after s.acts
 
 -- each was served in order, with the store that the one before it left
-abbrev pub ServedAll : Config → List Connection → List Session → Store → Store → Type 0
-ServedAll config [] [] store new = new ≡ store
-ServedAll config [] (s ∷ ss) store new = ⊥
-ServedAll config (c ∷ cs) [] store new = ⊥
-ServedAll config (c ∷ cs) (s ∷ ss) store new =
-    (s.before ≡ store) × ServedOne config c s × ServedAll config cs ss s.after new
+abbrev pub ServedAll : Config → List Connection → List Session → Placed → Placed → Type 0
+ServedAll config [] [] placed new = new ≡ placed
+ServedAll config [] (s ∷ ss) placed new = ⊥
+ServedAll config (c ∷ cs) [] placed new = ⊥
+ServedAll config (c ∷ cs) (s ∷ ss) placed new =
+    (s.before ≡ placed) × ServedOne config c s × ServedAll config cs ss s.after new
 
 -- what was done on connections one after another, and the readings that were taken
 abbrev pub acts_of : List Session → List Act
@@ -57,18 +57,18 @@ pub record Comes (old new : Told) (came : List Connection) (sessions : List Sess
   pub read : new.readings ≡ old.readings ++ readings_of sessions
 
 -- so many connections came and were served
-pub record Serves (config : Config) (old new : Told) (store after : Store) (count : ℕ) : Type 0 where
+pub record Serves (config : Config) (old new : Told) (placed after : Placed) (count : ℕ) : Type 0 where
   pub came : List Connection
   pub sessions : List Session
   pub comes : Comes old new came sessions
-  pub does : Does old new store after (acts_of sessions) nothing
+  pub does : Does old new placed after (acts_of sessions) nothing
   pub number : length came ≡ count
   pub fewer : old.listener.to_come ≡ count + new.listener.to_come
-  pub each : ServedAll config came sessions store after
+  pub each : ServedAll config came sessions placed after
 
 -- those before the last were served; on it all was done for the messages before the last, and for that what the fault
 -- says
-pub record BreaksLast (config : Config) (came : List Connection) (sessions : List Session) (store : Store)
+pub record BreaksLast (config : Config) (came : List Connection) (sessions : List Session) (placed : Placed)
     (fault : ServeFault) : Type 0 where
   pub first : List Connection
   pub last : Connection
@@ -76,29 +76,29 @@ pub record BreaksLast (config : Config) (came : List Connection) (sessions : Lis
   pub here : Session
   pub came_are : came ≡ first ++ last ∷ []
   pub sessions_are : sessions ≡ before ++ here ∷ []
-  pub served : ServedAll config first before store here.before
+  pub served : ServedAll config first before placed here.before
   pub all : IsSessionOf last here
   pub part : Part config here
   pub broken : BrokenBy config here part.1 fault
   pub prompt : IsPrompt config begun here
 
 -- what was served before the fault
-abbrev pub ServedTill : Config → ServeFault → List Connection → List Session → Store → Store → Type 0
-ServedTill config Disk came sessions store after = BreaksLast config came sessions store Disk
-ServedTill config Memory came sessions store after = BreaksLast config came sessions store Memory
-ServedTill config (JournalEnd end) came sessions store after = BreaksLast config came sessions store (JournalEnd end)
-ServedTill config Accept came sessions store after = ServedAll config came sessions store after
+abbrev pub ServedTill : Config → ServeFault → List Connection → List Session → Placed → Placed → Type 0
+ServedTill config Disk came sessions placed after = BreaksLast config came sessions placed Disk
+ServedTill config Memory came sessions placed after = BreaksLast config came sessions placed Memory
+ServedTill config (JournalEnd end) came sessions placed after = BreaksLast config came sessions placed (JournalEnd end)
+ServedTill config Accept came sessions placed after = ServedAll config came sessions placed after
 
 -- some connections came, at most so many, and then the server stopped
-pub record Breaks (config : Config) (old new : Told) (store : Store) (most : ℕ) (fault : ServeFault)
+pub record Breaks (config : Config) (old new : Told) (placed : Placed) (most : ℕ) (fault : ServeFault)
     : Type 0 where
   pub came : List Connection
   pub sessions : List Session
-  pub after : Store
+  pub after : Placed
   pub comes : Comes old new came sessions
-  pub does : Does old new store after (acts_of sessions) breaking
+  pub does : Does old new placed after (acts_of sessions) breaking
   pub few : length came ≤ most
-  pub till : ServedTill config fault came sessions store after
+  pub till : ServedTill config fault came sessions placed after
 
 -- memory was wanting before the first connection, and nothing was done
 abbrev pub NeverBegan : ServeFault → Told → Told → Type 0
@@ -106,17 +106,17 @@ NeverBegan fault old new =
     (fault ≡ Memory) × (new.connections ≡ old.connections) × (new.readings ≡ old.readings)
 
 -- how the server stopped
-abbrev pub Broken : Config → Told → Told → Store → ℕ → ServeFault → Type 0
-Broken config old new store most fault =
-    Breaks config old new store most fault ⊎ NeverBegan fault old new
+abbrev pub Broken : Config → Told → Told → Placed → ℕ → ServeFault → Type 0
+Broken config old new placed most fault =
+    Breaks config old new placed most fault ⊎ NeverBegan fault old new
 
 -- a connection was just accepted, and nothing else was done
-pub record JustAccepted (old new : Told) (store : Store) : Type 0 where
+pub record JustAccepted (old new : Told) (placed : Placed) : Type 0 where
   pub input : List ℕ
   pub next : new.connections ≡ old.connections ++ accepted input ∷ []
   pub readings : new.readings ≡ old.readings
   pub fewer : old.listener.to_come ≡ 1 + new.listener.to_come
-  pub does : Does old new store store (accept ∷ []) nothing
+  pub does : Does old new placed placed (accept ∷ []) nothing
 
 -- what stopped the server, by the counts of failed calls of the listener and of the disk
 abbrev pub HasStopped : ServeFault → Told → Told → Type 0

@@ -2,30 +2,30 @@
 use Rattle.std.specs.Prelude.{◌≡◌, ℕ, ◌+◌, List, [], ◌∷◌, ◌++◌, length, All}
 use Rattle.glacier_disk.specs.Network.{Wait}
 use Rattle.glacier_server.specs.Acts.{Act, bytes_of}
-use Rattle.glacier_store.specs.declared.store.Store.{Store}
+use Rattle.glacier_server.specs.Placed.{Placed}
 
 -- the bytes that were taken, what was done, the readings of the clock, and what each receive waited
 -- behind, from one state of the store to another
 pub record Session : Type 0 where
-  pub before : Store
-  pub after : Store
+  pub before : Placed
+  pub after : Placed
   pub taken : List ℕ
   pub acts : List Act
   pub readings : List ℕ
   pub waits : List Wait
 
 -- only bytes were taken
-abbrev pub taking : Store → List ℕ → List Wait → Session
-taking store bytes waits =
-    record { before = store; after = store; taken = bytes; acts = []; readings = []; waits = waits }
+abbrev pub taking : Placed → List ℕ → List Wait → Session
+taking placed bytes waits =
+    record { before = placed; after = placed; taken = bytes; acts = []; readings = []; waits = waits }
 
 -- only a reading was taken
-abbrev pub reading : Store → ℕ → Session
-reading store r =
-    record { before = store; after = store; taken = []; acts = []; readings = r ∷ []; waits = [] }
+abbrev pub reading : Placed → ℕ → Session
+reading placed r =
+    record { before = placed; after = placed; taken = []; acts = []; readings = r ∷ []; waits = [] }
 
 -- only these acts were done
-abbrev pub acting : Store → Store → List Act → Session
+abbrev pub acting : Placed → Placed → List Act → Session
 acting before after acts =
     record { before = before; after = after; taken = []; acts = acts; readings = []; waits = [] }
 

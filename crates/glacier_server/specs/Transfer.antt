@@ -7,7 +7,7 @@ use Rattle.glacier_machine.specs.SignedRequests.{IsBodyKept}
 use Rattle.glacier_server.specs.Acts.{sends, bytes_of}
 use Rattle.glacier_server.specs.Does.{Does, Failing, nothing, receiving, sending, breaking}
 use Rattle.glacier_server.specs.Session.{Session, taking, acting}
-use Rattle.glacier_store.specs.declared.store.Store.{Store}
+use Rattle.glacier_server.specs.Placed.{Placed}
 
 -- the connection that was accepted last
 abbrev pub current : List Connection → Connection
@@ -95,7 +95,7 @@ pub record TakenAt (start : Wait) (all : List ℕ) (Holds : List ℕ → Type 0)
 pub record Takes (old new : Told) (got : List ℕ) (Holds : List ℕ → Type 0) (failing : Failing)
     : Type 0 where
   pub waits : List Wait
-  pub transfer : (store : Store) → Transfer old new (taking store got waits) failing
+  pub transfer : (placed : Placed) → Transfer old new (taking placed got waits) failing
   pub each : All (TakenAt (wait_of (current old.connections)) got Holds) waits
 
 -- they were taken behind those that were unread, of all of which this held at each wait
@@ -119,9 +119,9 @@ pub record TakesBody (old new : Told) (here kept : List ℕ) (missing left : ℕ
 
 -- all these bytes were sent, and nothing else was done
 abbrev pub SentAll : Told → Told → List ℕ → Type 0
-SentAll old new bytes = (store : Store) → Transfer old new (acting store store (sends bytes)) nothing
+SentAll old new bytes = (placed : Placed) → Transfer old new (acting placed placed (sends bytes)) nothing
 
 -- a first part of them was sent, and then the send failed
 abbrev pub SentPart : Told → Told → List ℕ → Type 0
 SentPart old new bytes =
-    (n : ℕ) × ((store : Store) → Transfer old new (acting store store (sends (take n bytes))) sending)
+    (n : ℕ) × ((placed : Placed) → Transfer old new (acting placed placed (sends (take n bytes))) sending)

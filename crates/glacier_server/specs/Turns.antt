@@ -7,7 +7,8 @@ use Rattle.glacier_machine.specs.declared.config.Config.{Config}
 use Rattle.glacier_server.specs.Acts.{Act}
 use Rattle.glacier_server.specs.Machine.{begun_events, happened, interim_of, passed}
 use Rattle.glacier_server.specs.Out.{begin_acts, interim, told}
-use Rattle.glacier_vault.specs.Accounts.{Accounts, AccountEvent}
+use Rattle.glacier_replay.specs.Changes.{State}
+use Rattle.glacier_vault.specs.Accounts.{AccountEvent}
 
 -- a message, or a good head whose body isn't whole
 pub data Turn : Type 0 where
@@ -20,21 +21,21 @@ IsNext input (whole m) rest = Begins input m rest
 IsNext input (begun h) rest = BeginsHead input h rest × BeginsNone input
 
 -- what is done for it: n messages stand before it
-abbrev pub turn_acts : Config → ℕ → Accounts → Turn → ℕ → List Act
+abbrev pub turn_acts : Config → ℕ → State → Turn → ℕ → List Act
 turn_acts config n state (whole m) reading = told config n state m reading
 turn_acts config n state (begun h) reading = begin_acts config state h reading
 
 -- its interim line
-abbrev pub turn_interim : Config → Accounts → Turn → ℕ → List ℕ
+abbrev pub turn_interim : Config → State → Turn → ℕ → List ℕ
 turn_interim config state (whole m) reading = interim config state m reading
 turn_interim config state (begun h) reading = interim_of config state h reading
 
 -- its events, and those of them that are of time that passes
-abbrev pub turn_events : Config → Accounts → Turn → ℕ → List AccountEvent
+abbrev pub turn_events : Config → State → Turn → ℕ → List AccountEvent
 turn_events config state (whole m) reading = happened config state m reading
 turn_events config state (begun h) reading = begun_events config state h reading
 
-abbrev pub turn_passed : Config → Accounts → Turn → ℕ → List AccountEvent
+abbrev pub turn_passed : Config → State → Turn → ℕ → List AccountEvent
 turn_passed config state (whole m) reading = passed config state m reading
 turn_passed config state (begun h) reading = begun_events config state h reading
 
@@ -47,6 +48,6 @@ abbrev pub readings_for : Option (Turn × ℕ) → List ℕ
 readings_for None = []
 readings_for (Some last) = last.1 ∷ []
 
-abbrev pub acts_for : Config → ℕ → Accounts → Option (Turn × ℕ) → List Act
+abbrev pub acts_for : Config → ℕ → State → Option (Turn × ℕ) → List Act
 acts_for config n state None = []
 acts_for config n state (Some last) = turn_acts config n state last.0 last.1

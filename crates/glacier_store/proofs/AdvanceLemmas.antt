@@ -1,4 +1,4 @@
--- A holding goes on by the event of a change, or stays where there is none.
+-- A store goes on by the event of a change, or stays where there is none.
 use Rattle.std.proofs.Common.{◌≡◌, ℕ, List, [], ◌∷◌, Option, Some, None, Ok, Err, refl, sym, subst, arith, inl, inr}
 use Rattle.std.specs.FinMap as map
 use Rattle.std.specs.Prelude.{Result}
@@ -11,44 +11,44 @@ use Rattle.glacier_vault.specs.Accounts.{AccountEvent, Accounts}
 use Rattle.glacier_vault.specs.declared.event.Change.{Change}
 use Rattle.glacier_vault.specs.declared.event.Event.{Event}
 use Rattle.glacier_replay.specs.Changes.{State, after_account_event, after_all}
-use Rattle.glacier_store.specs.HoldingCalls.{IsEventOf, Keeps, Lengthens, event_at, record_room}
-use Rattle.glacier_store.specs.HoldingSteps.{Advances, GrowsBy, IsChangeOf, change_events, room_of}
+use Rattle.glacier_store.specs.Calls.{IsEventOf, Commits, Lengthens, event_at, record_room}
+use Rattle.glacier_store.specs.Steps.{Advances, Grows, IsChangeOf, change_events, room_of}
 use Rattle.glacier_store.specs.declared.fault.StoreFault.{StoreFault}
 use Rattle.glacier_store.specs.declared.fault.StoreFault.TheVariants as fault
-use Rattle.glacier_store.specs.declared.holding.Holding.{Holding}
+use Rattle.glacier_store.specs.declared.store.Store.{Store}
 use Rattle.glacier_store.proofs.EventOfLemmas.{beside_none, rest_alone}
-use Rattle.glacier_store.proofs.HeldLemmas.{remains_start}
-use Rattle.glacier_store.proofs.KeepsLemmas.{kept_without_memory}
+use Rattle.glacier_store.proofs.KeptLemmas.{stays_start}
+use Rattle.glacier_store.proofs.CommitLemmas.{kept_without_memory}
 
--- where there is no event a holding stays as it is
-pub unchanged_keeps : (old : Told) (holding : Holding) (before : State) → Lawful old → holding.accounts ≡ before.accounts
-    → Keeps old old holding.journal holding.area [] before before (Ok holding)
-unchanged_keeps old holding before law accounts = record {
-  any_moment = λ held. weaker old old _ _ (remains_start old holding.journal holding.area.blobs before law held) (λ i stands. inl stands);
+-- where there is no event a store stays as it is
+pub unchanged_keeps : (old : Told) (store : Store) (before : State) → Lawful old → store.accounts ≡ before.accounts
+    → Commits old old store.journal store.area [] before before (Ok store)
+unchanged_keeps old store before law accounts = record {
+  any_moment = λ held. weaker old old _ _ (stays_start old store.journal store.area.blobs before law held) (λ i stands. inl stands);
   memory = λ held is. absurd (cc is);
-  kept = λ held beside. record { accounts = accounts; held = held; rest = rest_alone holding.area.free holding.area.blobs beside };
-  touches = touches_start holding.journal.area old law;
+  kept = λ held beside. record { accounts = accounts; held = held; rest = rest_alone store.area.free store.area.blobs beside };
+  touches = touches_start store.journal.area old law;
 }
 
--- a holding that goes on as its parts say
-pub advanced : (old new : Told) (holding : Holding) (happened : List AccountEvent) (result : Result Holding StoreFault)
-    → ((state : State) → holding.accounts ≡ state.accounts → Keeps old new holding.journal holding.area [] state (after_all state happened) result)
-    → (happened ≡ [] → Looks old new) → Advances old new holding happened result
-advanced old new holding happened result keeps idle = record {
+-- a store that goes on as its parts say
+pub advanced : (old new : Told) (store : Store) (happened : List AccountEvent) (result : Result Store StoreFault)
+    → ((state : State) → store.accounts ≡ state.accounts → Commits old new store.journal store.area [] state (after_all state happened) result)
+    → (happened ≡ [] → Looks old new) → Advances old new store happened result
+advanced old new store happened result keeps idle = record {
   any_moment = λ state kept. (keeps state kept.accounts).any_moment kept.held;
   memory = λ state kept is. (keeps state kept.accounts).memory kept.held is;
-  kept = λ state kept. (keeps state kept.accounts).kept kept.held (beside_none holding.area.free holding.area.blobs kept.rest);
-  touches = (keeps (record { accounts = holding.accounts; bodies = map.empty }) refl).touches;
+  kept = λ state kept. (keeps state kept.accounts).kept kept.held (beside_none store.area.free store.area.blobs kept.rest);
+  touches = (keeps (record { accounts = store.accounts; bodies = map.empty }) refl).touches;
   idle = idle;
 }
 
 -- a change of the accounts that is kept
-pub change_advances : (old new : Told) (holding : Holding) (afterwards : Accounts) (k : List ℕ) (m : ℕ) (change : Change) (result : Result Holding StoreFault)
-    → IsChangeOf holding.accounts afterwards k m change
-    → ((before : State) → IsChangeOf before.accounts afterwards k m change → Keeps old new holding.journal holding.area [] before (after_all before (change_events k m change)) result)
-    → (change.event ≡ None → Looks old new) → Advances old new holding (change_events k m change) result
-change_advances old new holding afterwards k m change result is keeps idle =
-    advanced old new holding (change_events k m change) result
+pub change_advances : (old new : Told) (store : Store) (afterwards : Accounts) (k : List ℕ) (m : ℕ) (change : Change) (result : Result Store StoreFault)
+    → IsChangeOf store.accounts afterwards k m change
+    → ((before : State) → IsChangeOf before.accounts afterwards k m change → Commits old new store.journal store.area [] before (after_all before (change_events k m change)) result)
+    → (change.event ≡ None → Looks old new) → Advances old new store (change_events k m change) result
+change_advances old new store afterwards k m change result is keeps idle =
+    advanced old new store (change_events k m change) result
     (λ state same. keeps state (subst (λ (all : Accounts). IsChangeOf all afterwards k m change) same is))
     (λ none. idle (no_event change.event change.freed none))
   where
@@ -57,19 +57,19 @@ change_advances old new holding afterwards k m change result is keeps idle =
     no_event (Some event) freed none = cc none
 
 -- nothing happens
-pub idle_advances : (old : Told) (holding : Holding) (happened : List AccountEvent) → happened ≡ [] → Lawful old → Advances old old holding happened (Ok holding)
-idle_advances old holding happened none law = advanced old old holding happened (Ok holding)
-    (λ state same. subst (λ (l : List AccountEvent). Keeps old old holding.journal holding.area [] state (after_all state l) (Ok holding)) (sym none) (unchanged_keeps old holding state law same))
+pub idle_advances : (old : Told) (store : Store) (happened : List AccountEvent) → happened ≡ [] → Lawful old → Advances old old store happened (Ok store)
+idle_advances old store happened none law = advanced old old store happened (Ok store)
+    (λ state same. subst (λ (l : List AccountEvent). Commits old old store.journal store.area [] state (after_all state l) (Ok store)) (sym none) (unchanged_keeps old store state law same))
     (λ _. looks_start old law)
 
 -- memory was wanting before anything was kept
-pub no_memory_advances : (old : Told) (holding : Holding) (happened : List AccountEvent) (result : Result Holding StoreFault) → result ≡ Err fault.Memory → Lawful old → Advances old old holding happened result
-no_memory_advances old holding happened result is law =
-    advanced old old holding happened result (λ state same. kept_without_memory old holding.journal holding.area [] state (after_all state happened) result is law) (λ none. looks_start old law)
+pub no_memory_advances : (old : Told) (store : Store) (happened : List AccountEvent) (result : Result Store StoreFault) → result ≡ Err fault.Memory → Lawful old → Advances old old store happened result
+no_memory_advances old store happened result is law =
+    advanced old old store happened result (λ state same. kept_without_memory old store.journal store.area [] state (after_all state happened) result is law) (λ none. looks_start old law)
 
 -- the journal stays as long as it is
-pub grows_not : (holding : Holding) → GrowsBy holding.journal 0 (Ok holding)
-grows_not holding = record {
+pub grows_not : (store : Store) → Grows store.journal 0 (Ok store)
+grows_not store = record {
   longer = omega arith;
   within = λ some. absurd (omega (arith, some));
   end = λ length is. absurd (cc is);
@@ -77,8 +77,8 @@ grows_not holding = record {
   no_other = tt;
 }
 
-pub grows_none : (journal : Journal) (room : ℕ) (result : Result Holding StoreFault) → result ≡ Err fault.Memory → GrowsBy journal room result
-grows_none journal room result is = subst (λ (r : Result Holding StoreFault). GrowsBy journal room r) (sym is) (record {
+pub grows_none : (journal : Journal) (room : ℕ) (result : Result Store StoreFault) → result ≡ Err fault.Memory → Grows journal room result
+grows_none journal room result is = subst (λ (r : Result Store StoreFault). Grows journal room r) (sym is) (record {
   longer = tt;
   within = tt;
   end = λ length is. absurd (cc is);
@@ -87,7 +87,7 @@ grows_none journal room result is = subst (λ (r : Result Holding StoreFault). G
 })
 
 -- and it grows by a record
-pub grows_once : (journal : Journal) (h : AccountEvent) (result : Result Holding StoreFault) → Lengthens journal (record_room h []) result → GrowsBy journal (room_of (h ∷ [])) result
+pub grows_once : (journal : Journal) (h : AccountEvent) (result : Result Store StoreFault) → Lengthens journal (record_room h []) result → Grows journal (room_of (h ∷ [])) result
 grows_once journal h result lengthens = record {
   longer = IfOk-weaker result _ _ (λ done is. omega (arith, is)) lengthens.longer;
   within = on_ok_weaker result (λ is some. omega (arith, is)) lengthens.within;
@@ -101,30 +101,30 @@ module _ (k : List ℕ) (m : ℕ) (freed : List ℕ) where
   its event = change_events k m (record { event = event; freed = freed })
 
   -- a change without an event is kept
-  pub none_keeps : (old : Told) (holding : Holding) (before : State) (event : Option Event) → event ≡ None → Lawful old
-      → IsChangeOf before.accounts holding.accounts k m (record { event = event; freed = freed })
-      → Keeps old old holding.journal holding.area [] before (after_all before (its event)) (Ok holding)
-  none_keeps old holding before None none law is = unchanged_keeps old holding before law is
-  none_keeps old holding before (Some event) none law is = absurd (cc none)
+  pub none_keeps : (old : Told) (store : Store) (before : State) (event : Option Event) → event ≡ None → Lawful old
+      → IsChangeOf before.accounts store.accounts k m (record { event = event; freed = freed })
+      → Commits old old store.journal store.area [] before (after_all before (its event)) (Ok store)
+  none_keeps old store before None none law is = unchanged_keeps old store before law is
+  none_keeps old store before (Some event) none law is = absurd (cc none)
 
   -- and one with an event once that is
-  pub some_keeps : (old new : Told) (holding : Holding) (before : State) (event : Option Event) (e : Event) (result : Result Holding StoreFault) → event ≡ Some e
-      → IsChangeOf before.accounts holding.accounts k m (record { event = event; freed = freed })
-      → (IsEventOf before.accounts holding.accounts (event_at k m e []) freed → Keeps old new holding.journal holding.area [] before (after_account_event before (event_at k m e [])) result)
-      → Keeps old new holding.journal holding.area [] before (after_all before (its event)) result
-  some_keeps old new holding before None e result there is keeps = absurd (cc there)
-  some_keeps old new holding before (Some event) e result there is keeps =
+  pub some_keeps : (old new : Told) (store : Store) (before : State) (event : Option Event) (e : Event) (result : Result Store StoreFault) → event ≡ Some e
+      → IsChangeOf before.accounts store.accounts k m (record { event = event; freed = freed })
+      → (IsEventOf before.accounts store.accounts (event_at k m e []) freed → Commits old new store.journal store.area [] before (after_account_event before (event_at k m e [])) result)
+      → Commits old new store.journal store.area [] before (after_all before (its event)) result
+  some_keeps old new store before None e result there is keeps = absurd (cc there)
+  some_keeps old new store before (Some event) e result there is keeps =
       let same : e ≡ event = cc in
-      subst (λ (x : Event). Keeps old new holding.journal holding.area [] before (after_account_event before (event_at k m x [])) result) same
-      (keeps (subst (λ (x : Event). IsEventOf before.accounts holding.accounts (event_at k m x []) freed) (sym same) is.1))
+      subst (λ (x : Event). Commits old new store.journal store.area [] before (after_account_event before (event_at k m x [])) result) same
+      (keeps (subst (λ (x : Event). IsEventOf before.accounts store.accounts (event_at k m x []) freed) (sym same) is.1))
 
-  pub none_grows : (holding : Holding) (event : Option Event) → event ≡ None → GrowsBy holding.journal (room_of (its event)) (Ok holding)
-  none_grows holding None none = grows_not holding
-  none_grows holding (Some event) none = absurd (cc none)
+  pub none_grows : (store : Store) (event : Option Event) → event ≡ None → Grows store.journal (room_of (its event)) (Ok store)
+  none_grows store None none = grows_not store
+  none_grows store (Some event) none = absurd (cc none)
 
-  pub some_grows : (journal : Journal) (event : Option Event) (e : Event) (result : Result Holding StoreFault) → event ≡ Some e
-      → Lengthens journal (record_room (event_at k m e []) []) result → GrowsBy journal (room_of (its event)) result
+  pub some_grows : (journal : Journal) (event : Option Event) (e : Event) (result : Result Store StoreFault) → event ≡ Some e
+      → Lengthens journal (record_room (event_at k m e []) []) result → Grows journal (room_of (its event)) result
   some_grows journal None e result there lengthens = absurd (cc there)
   some_grows journal (Some event) e result there lengthens =
       let same : e ≡ event = cc in
-      subst (λ (x : Event). GrowsBy journal (room_of (event_at k m x [] ∷ [])) result) same (grows_once journal (event_at k m e []) result lengthens)
+      subst (λ (x : Event). Grows journal (room_of (event_at k m x [] ∷ [])) result) same (grows_once journal (event_at k m e []) result lengthens)

@@ -12,8 +12,8 @@ use Rattle.glacier_bodies.specs.Stands.{Layouts}
 use Rattle.glacier_replay.specs.Changes.{accounts_after as after_one, body_in}
 use Rattle.glacier_replay.specs.Replayed.{Replay, replayed}
 use Rattle.glacier_store.specs.Drawn.{AreDrawn}
-use Rattle.glacier_store.specs.HoldingCalls.{event_at}
-use Rattle.glacier_store.specs.HoldingSteps.{IsChangeOf, IsMadeBy, accounts_after, change_events}
+use Rattle.glacier_store.specs.Calls.{event_at}
+use Rattle.glacier_store.specs.Steps.{IsChangeOf, IsMadeBy, accounts_after, change_events}
 use Rattle.glacier_store.proofs.AccountLemmas.{put_back}
 use Rattle.glacier_store.proofs.EventOfLemmas.{drawn_on}
 use Rattle.glacier_replay.proofs.PutLemmas.{put_over}

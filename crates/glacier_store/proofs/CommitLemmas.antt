@@ -1,83 +1,77 @@
--- What a crash leaves while an event is kept.
-use Rattle.std.proofs.Common.{◌≡◌, ◌⊎◌, inl, inr, ⊎_elim, ℕ, ◌+◌, List, [], ◌∷◌, ◌++◌, length, Ok, Err}
-use Rattle.std.proofs.Common.{◌∙◌, sym, ap, subst}
-use Rattle.glacier_disk.specs.Image.{Image}
+-- What keeping an event answers.
+use Rattle.std.proofs.Common.{◌≡◌, inl, ℕ, List, [], ◌∷◌, ◌++◌, Ok, Err, sym, ◌∙◌, ap, subst}
+use Rattle.std.specs.Prelude.{Result, IfOk, IsErrOf}
+use Rattle.glacier_bodies.specs.BlobAreas.{AreaState, IsOpen}
+use Rattle.glacier_bodies.specs.Blobs.{Holds}
+use Rattle.glacier_bodies.specs.Stands.{AreApart, Layouts}
+use Rattle.glacier_disk.specs.declared.area.Area.TheVariants.{Blobs}
 use Rattle.glacier_disk.specs.Moments.{weaker}
-use Rattle.glacier_disk.specs.Told.{Told}
-use Rattle.glacier_journal.specs.Appending.{Appends, IsDurable, StillLists, NowLists}
-use Rattle.glacier_journal.specs.Listed.{Payloads, Listed, AllList}
-use Rattle.glacier_journal.specs.declared.fault.JournalFault.{JournalFault}
-use Rattle.glacier_journal.specs.declared.fault.JournalFault.TheVariants as journal
+use Rattle.glacier_disk.specs.Told.{Told, Lawful}
+use Rattle.glacier_disk.proofs.TouchesLemmas.{touches_start}
+use Rattle.glacier_extents.specs.declared.run.Run.{Run}
+use Rattle.glacier_extents.specs.Runs.{block_count}
+use Rattle.glacier_journal.specs.Appending.{Appends, IsDurable}
+use Rattle.glacier_journal.specs.Listed.{AllList, Payloads}
 use Rattle.glacier_journal.specs.declared.journal.Journal.{Journal}
-use Rattle.glacier_records.specs.declared.records.Record.{Record}
 use Rattle.glacier_records.specs.Spells.{Spells}
-use Rattle.glacier_store.specs.Calls.{Commits}
-use Rattle.glacier_store.specs.Changes.{Changes}
-use Rattle.glacier_store.specs.Faults.{store_fault}
-use Rattle.glacier_store.specs.Replayed.{Makes}
-use Rattle.glacier_store.specs.Stands.{Kept, IsKeptBy}
-use Rattle.glacier_vault.specs.Accounts.{Accounts}
+use Rattle.glacier_vault.specs.Accounts.{Accounts, account_in, AccountEvent}
+use Rattle.glacier_replay.specs.Changes.{IsBodyOf, State, after_account_event, leaf_count, new_blob, with_new, without_blobs}
+use Rattle.glacier_replay.specs.Made.{EventFits, IsRest, nothing, record_of}
+use Rattle.glacier_replay.proofs.SettledLemmas.{leads_settled, nothing_settled}
+use Rattle.glacier_store.specs.Kept.{IsHeldBy, IsRestBeside}
+use Rattle.glacier_store.specs.Calls.{IsEventOf, Commits}
 use Rattle.glacier_store.specs.declared.fault.StoreFault.{StoreFault}
 use Rattle.glacier_store.specs.declared.fault.StoreFault.TheVariants as fault
 use Rattle.glacier_store.specs.declared.store.Store.{Store}
-use Rattle.glacier_store.proofs.EventLemmas.{Leads}
-use Rattle.glacier_store.proofs.ReplayedLemmas.{makes-push}
-use Rattle.glacier_store.proofs.StandsLemmas.{listed_stands}
+use Rattle.glacier_store.proofs.EventOfLemmas.{accounts_are, event_fits, layouts_are}
+use Rattle.glacier_store.proofs.KeptLemmas.{becomes, held_on, layouts_after, stays_start}
 
-module _ (old new : Told) (store : Store) (after : Accounts) (payload : List ℕ) (r : Record) (spells : Spells payload r)
-    (leads : Leads store.accounts r after)
-    (appends : Appends store.journal.area store.journal.length payload old new) where
-  made : (kept : Kept old store) → Makes (kept.payloads ++ payload ∷ []) after
-  made kept = subst (λ (s : Accounts). Makes (kept.payloads ++ payload ∷ []) s) (sym leads.after_is)
-      (makes-push kept.payloads store.accounts payload r kept.made spells leads.fits)
+-- memory was wanting before the first call of the disk
+pub kept_without_memory : (old : Told) (journal : Journal) (area : AreaState) (own : List Run) (before after : State) (result : Result Store StoreFault) → result ≡ Err fault.Memory → Lawful old
+    → Commits old old journal area own before after result
+kept_without_memory old journal area own before after result is law = subst (λ (r : Result Store StoreFault). Commits old old journal area own before after r) (sym is) (record {
+  any_moment = λ held. weaker old old _ _ (stays_start old journal area.blobs before law held) (λ i stands. inl stands);
+  memory = λ held same. stays_start old journal area.blobs before law held;
+  kept = λ held beside. tt;
+  touches = touches_start journal.area old law;
+})
 
-  -- an append changes the state by its event, or not
-  changes : Kept old store → Changes old new store.accounts after
-  changes kept = weaker old new _ _ (appends.any_moment kept.payloads kept.listed) (λ i.
-      ⊎_elim
-      (λ (still : StillLists old.leaves store.journal.area store.journal.area kept.payloads store.journal.length i).
-      inl (listed_stands i store.journal.area kept.payloads store.journal.length store.accounts still.listed kept.made))
-      (λ (now : NowLists old.reads store.journal.area store.journal.area (kept.payloads ++ payload ∷ [])
-      (store.journal.length + (length payload + 5)) i).
-      inr (listed_stands i store.journal.area (kept.payloads ++ payload ∷ [])
-      (store.journal.length + (length payload + 5)) after now.listed (made kept))))
+module _ (old new : Told) (journal : Journal) (area : AreaState) (own : List Run) (before : State) (h : AccountEvent) (afterwards : Accounts) (freed payload : List ℕ)
+    (law : Lawful old) (event : IsEventOf before.accounts afterwards h freed) (spells : Spells payload (record_of h own))
+    (opened : IsOpen area own) (count : block_count own ≡ leaf_count h.event) (body_is : IsBodyOf h.event h.body) (stored : Holds own h.body (old.reads Blobs))
+    (named : AreaState) (named_is : named.blobs ≡ with_new area.blobs h.account (new_blob (account_in before.accounts h.account).counter h.event own))
+    (apart_is : AreApart area.blobs → AreApart named.blobs) (rest_is : IsRestBeside own area.free area.blobs → IsRest named.free named.blobs) (appends : Appends journal.area journal.length payload old new) where
+  fits : EventFits (record { accounts = before.accounts; layouts = area.blobs }) h.account h.moment h.event own
+  fits = event_fits before afterwards h freed event area own opened count
 
-  -- once it is acknowledged, the event is kept
-  kept_now : (journal : Journal) (kept : Kept old store)
-      → IsDurable old new store.journal.area journal.area (kept.payloads ++ payload ∷ []) journal.length
-      → IsKeptBy new journal after
-  kept_now journal kept durable = record {
-    payloads = kept.payloads ++ payload ∷ [];
-    listed = λ i left. subst (λ (j : Image). Listed j journal.area (kept.payloads ++ payload ∷ []) journal.length)
-        (sym (durable.only i left)) durable.now.listed;
-    made = made kept;
-  }
+  apart : IsHeldBy old journal area.blobs before → AreApart area.blobs
+  apart held = (leads_settled held.payloads nothing (record { accounts = before.accounts; layouts = area.blobs }) nothing_settled (held.state_is old.reads law.reads_left).made).apart
 
-  -- an append that is Ok
-  pub appended : {T : Type 0} → (journal : Journal)
-      → ((payloads : Payloads) → AllList old.leaves store.journal.area payloads store.journal.length
-      → IsDurable old new store.journal.area journal.area (payloads ++ payload ∷ []) journal.length)
-      → (x : T) → Commits old new store after (Ok (record { accounts = after; journal = journal }, x))
-  appended journal acknowledged x = record {
-    any_moment = changes;
-    memory = λ kept is. absurd (cc is);
-    kept = λ kept. kept_now journal kept (acknowledged kept.payloads kept.listed);
+  its_layouts : (done : Layouts) → done ≡ without_blobs named.blobs h.account freed
+      → done ≡ layouts_after before area.blobs h own
+  its_layouts done is = is ∙ ap (λ (m : Layouts). without_blobs m h.account freed) named_is ∙ sym (layouts_are before afterwards h freed event area.blobs own)
+
+  -- the record was appended, or not
+  pub kept_by_append : (result : Result Store StoreFault)
+      → ((payloads : Payloads) → AllList old.leaves journal.area payloads journal.length
+      → IfOk result (λ done. IsDurable old new journal.area done.journal.area (payloads ++ payload ∷ []) done.journal.length))
+      → IfOk result (λ done. done.accounts ≡ afterwards) → IfOk result (λ done. done.area.blobs ≡ without_blobs named.blobs h.account freed)
+      → IfOk result (λ done. AreApart named.blobs → IsRest named.free named.blobs → IsRest done.area.free done.area.blobs) → (IsErrOf result fault.Memory → ⊥)
+      → Commits old new journal area own before (after_account_event before h) result
+  kept_by_append (Ok done) acknowledged accounts blobs rest no_memory = record {
+    any_moment = λ held. becomes old new journal area.blobs before h own payload law spells event.lawful fits body_is stored held appends;
+    memory = λ held is. absurd (cc is);
+    kept = λ held beside. record {
+      accounts = accounts ∙ accounts_are before afterwards h freed event;
+      held = subst (λ (l : Layouts). IsHeldBy new done.journal l (after_account_event before h)) (sym (its_layouts done.area.blobs blobs))
+          (held_on old new journal area.blobs before h own payload law spells event.lawful fits body_is stored held done.journal (acknowledged held.payloads held.listed));
+      rest = rest (apart_is (apart held)) (rest_is beside);
+    };
     touches = appends.touches;
   }
-
-  -- one that isn't, which is not for want of memory
-  pub not_appended : {T : Type 0} → (why : StoreFault) (failed : JournalFault) → why ≡ store_fault failed
-      → (failed ≡ journal.Disk) ⊎ (failed ≡ journal.End store.journal.length)
-      → Commits {T = T} old new store after (Err why)
-  not_appended why failed is cause = record {
-    any_moment = changes;
-    memory = λ kept e. absurd (other (cc e) cause);
-    kept = λ kept. tt;
+  kept_by_append (Err why) acknowledged accounts blobs rest no_memory = record {
+    any_moment = λ held. becomes old new journal area.blobs before h own payload law spells event.lawful fits body_is stored held appends;
+    memory = λ held is. absurd (no_memory is);
+    kept = λ held beside. tt;
     touches = appends.touches;
   }
-    where
-      other : why ≡ fault.Memory → (failed ≡ journal.Disk) ⊎ (failed ≡ journal.End store.journal.length) → ⊥
-      other memory = ⊎_elim
-          (λ e. let clash : fault.Memory ≡ fault.Disk = sym memory ∙ is ∙ ap store_fault e in cc clash)
-          (λ e.
-          let clash : fault.Memory ≡ fault.End store.journal.length = sym memory ∙ is ∙ ap store_fault e in cc clash)

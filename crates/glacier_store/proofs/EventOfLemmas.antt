@@ -17,8 +17,8 @@ use Rattle.glacier_replay.proofs.CounterLemmas.{counts, of_replayed}
 use Rattle.glacier_replay.proofs.RestLemmas.{rest_with}
 use Rattle.glacier_replay.proofs.SettledLemmas.{account_after}
 use Rattle.glacier_store.specs.Drawn.{AreDrawn}
-use Rattle.glacier_store.specs.Held.{IsRestBeside}
-use Rattle.glacier_store.specs.HoldingCalls.{IsEventOf}
+use Rattle.glacier_store.specs.Kept.{IsRestBeside}
+use Rattle.glacier_store.specs.Calls.{IsEventOf}
 
 -- the blob that an event makes, where it has a body and where it has none
 pub no_new : {X : Type 0} (counter : ℕ) (event : Event) (x : X) → body_in event ≡ None → new_blob counter event x ≡ None

@@ -29,7 +29,7 @@ use Rattle.glacier_replay.specs.Changes.{body_in}
 use Rattle.glacier_replay.specs.Replayed.{Replay, after_event, replayed, where_fits, with_found}
 use Rattle.glacier_replay.proofs.BlobMaps.{is_account}
 use Rattle.glacier_replay.proofs.SettledLemmas.{account_after}
-use Rattle.glacier_store.specs.HoldingSteps.{HasPassed, IsChangeOf, IsMadeBy, accounts_after, change_events, time_events}
+use Rattle.glacier_store.specs.Steps.{HasPassed, IsChangeOf, IsMadeBy, accounts_after, change_events, time_events}
 use Rattle.glacier_store.proofs.ChangeLemmas.{after_change}
 
 -- an event without a body that fits at a moment makes what it does

@@ -15,9 +15,9 @@ use Rattle.glacier_replay.specs.Changes.{State}
 use Rattle.glacier_replay.specs.Made.{IsRest}
 use Rattle.glacier_replay.specs.Standing.{IsStateOf, Stands}
 use Rattle.glacier_replay.proofs.RestLemmas.{unnamed_free}
-use Rattle.glacier_store.specs.Held.{IsHeldBy, IsRestBeside}
-use Rattle.glacier_store.specs.HoldingCalls.{KeepsHeld}
-use Rattle.glacier_store.proofs.HeldLemmas.{picks_blobs}
+use Rattle.glacier_store.specs.Kept.{IsHeldBy, IsRestBeside}
+use Rattle.glacier_store.specs.Calls.{KeepsHeld}
+use Rattle.glacier_store.proofs.KeptLemmas.{picks_blobs}
 
 -- a list stays where only Blobs changes
 listed_still : (d i : Image) (area : Area) (payloads : Payloads) (end : ℕ) → ((other : Area) → other ≢ Blobs → i other ≡ d other) → Listed d area payloads end → Listed i area payloads end
@@ -56,7 +56,7 @@ module _ (old new : Told) (journal : Journal) (layouts : Layouts) (runs : List R
   pub streamed : KeepsHeld old new journal layouts runs
   streamed = record {
     held = still_held;
-    remains = λ state held. weaker old new _ _ (images state held).moments (still_stands state held);
+    stays = λ state held. weaker old new _ _ (images state held).moments (still_stands state held);
     writes = streams.own;
   }
 

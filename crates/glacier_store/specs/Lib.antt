@@ -1,15 +1,7 @@
 pub mod Calls
-pub mod Changes
 pub mod Drawn
-pub mod Events
 pub mod Faults
-pub mod Held
-pub mod HoldingCalls
-pub mod HoldingSteps
+pub mod Kept
 pub mod Outputs
-pub mod PolicyCode
 pub mod Quotas
-pub mod Replayed
-pub mod Stands
-pub mod StateCode
-pub mod VaultCode
+pub mod Steps

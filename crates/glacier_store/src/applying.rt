@@ -1,22 +1,22 @@
-// What is asked of an account of a holding.
+// What is asked of an account of a store.
 ghost use Rattle.std.specs.Prelude.{◌≡◌, ◌≤◌, true, IsTrue, IfOk};
 ghost use Rattle.glacier_machine.specs.AccountSteps.{step_of};
 ghost use Rattle.glacier_vault.specs.Accounts.{account_in};
 ghost use Rattle.glacier_store.specs.Calls.{StoreCall};
-ghost use Rattle.glacier_store.specs.HoldingSteps.{Advances, GrowsBy, accounts_after, action_events, holding_left, room_of};
+ghost use Rattle.glacier_store.specs.Steps.{Advances, Grows, accounts_after, action_events, store_left, room_of};
 
 use crate::changed::{acted, keep_change};
-use crate::{Holding, StoreFault};
+use crate::{Store, StoreFault};
 use glacier_base::Moment;
 use glacier_disk::Disk;
 use glacier_machine::{Action, Answer};
 use glacier_vault::Rules;
 use std::alloc::Global;
 
-impl Holding {
+impl Store {
     /// Does an action that has no body on an account at the moment `m`, and keeps what it changes.
     ///
-    /// After an error there is no holding: `Disk` says that a call of the disk failed, `Memory` is
+    /// After an error there is no store: `Disk` says that a call of the disk failed, `Memory` is
     /// want of memory, and `End` that the journal is as long as it can be.
     pub fn apply<D: Disk>(
         self,
@@ -25,7 +25,7 @@ impl Holding {
         rules: &Rules,
         m: Moment,
         action: &Action,
-    ) -> Result<(Holding, Answer), StoreFault>
+    ) -> Result<(Store, Answer), StoreFault>
         requires open { (D.told disk.old).opened ≡ true }
         requires time { (account_in self.accounts rules.now.account).last ≤ m }
 
@@ -35,25 +35,25 @@ impl Holding {
             accounts_after self.accounts (action_events rules.now m action.now self.accounts)) }
 
         ensures advances { IsTrue D.tells → Advances (D.told disk.old) (D.told disk.new) self
-            (action_events rules.now m action.now self.accounts) (holding_left result) }
-        ensures grows { GrowsBy self.journal
-            (room_of (action_events rules.now m action.now self.accounts)) (holding_left result) }
+            (action_events rules.now m action.now self.accounts) (store_left result) }
+        ensures grows { Grows self.journal
+            (room_of (action_events rules.now m action.now self.accounts)) (store_left result) }
         ensures call { StoreCall (D.told disk.old) (D.told disk.new) result }
         ensures alone { D.by_disk disk.old disk.new }
     {
-        let Holding {
+        let Store {
             mut accounts,
             area,
             journal,
         } = self;
         let answer = acted(&mut accounts, alloc, rules, m, action)?;
-        let holding = Holding {
+        let store = Store {
             accounts,
             area,
             journal,
         };
-        match keep_change(holding, alloc, disk, &rules.account, m, &answer.change) {
-            Ok(holding) => Ok((holding, answer)),
+        match keep_change(store, alloc, disk, &rules.account, m, &answer.change) {
+            Ok(store) => Ok((store, answer)),
             Err(fault) => Err(fault),
         }
     }

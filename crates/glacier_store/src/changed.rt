@@ -9,10 +9,10 @@ ghost use Rattle.glacier_replay.specs.Changes.{State, after_all, body_in};
 ghost use Rattle.glacier_replay.specs.Replayed.{replayed};
 ghost use Rattle.glacier_vault.specs.declared.state.AccountState.{AccountState as StateOf};
 ghost use Rattle.glacier_store.specs.Calls.{StoreCall};
-ghost use Rattle.glacier_store.specs.HoldingCalls.{Keeps};
-ghost use Rattle.glacier_store.specs.HoldingSteps.{GrowsBy, IsChangeOf, change_events, room_of};
+ghost use Rattle.glacier_store.specs.Calls.{Commits};
+ghost use Rattle.glacier_store.specs.Steps.{Grows, IsChangeOf, change_events, room_of};
 
-use crate::{Holding, StoreFault};
+use crate::{Store, StoreFault};
 use glacier_base::{Account, Memory, Moment};
 use glacier_disk::Disk;
 use glacier_machine::{Action, Answer, pass, step};
@@ -72,32 +72,32 @@ pub(crate) fn aged(
     Ok(change)
 }
 
-/// Keeps the event of a change, which has no body, in the journal, if it has one. The accounts are
+/// Commits the event of a change, which has no body, in the journal, if it has one. The accounts are
 /// those after it already.
 pub(crate) fn keep_change<D: Disk>(
-    holding: Holding,
+    store: Store,
     alloc: Global,
     disk: &mut D,
     account: &Account,
     m: Moment,
     change: &Change,
-) -> Result<Holding, StoreFault>
+) -> Result<Store, StoreFault>
     requires opened { (D.told disk.old).opened ≡ true }
     requires fits { IfSome change.now.event (λ event.
         (body_in event ≡ None) × ((a : StateOf) × IsSome (replayed a m event))) }
 
-    ensures accounts { IfOk result (λ done. done.accounts ≡ holding.accounts) }
+    ensures accounts { IfOk result (λ done. done.accounts ≡ store.accounts) }
     ensures keeps { IsTrue D.tells → (before : State) →
-        IsChangeOf before.accounts holding.accounts account.now m change.now →
-        Keeps (D.told disk.old) (D.told disk.new) holding.journal holding.area [] before
+        IsChangeOf before.accounts store.accounts account.now m change.now →
+        Commits (D.told disk.old) (D.told disk.new) store.journal store.area [] before
         (after_all before (change_events account.now m change.now)) result }
     ensures idle { IsTrue D.tells → change.now.event ≡ None → Looks (D.told disk.old) (D.told disk.new) }
-    ensures grows { GrowsBy holding.journal (room_of (change_events account.now m change.now)) result }
+    ensures grows { Grows store.journal (room_of (change_events account.now m change.now)) result }
     ensures call { StoreCall (D.told disk.old) (D.told disk.new) result }
     ensures alone { D.by_disk disk.old disk.new }
 {
     match &change.event {
-        None => Ok(holding),
-        Some(event) => holding.keep(alloc, disk, account, m, event, change.freed.as_slice()),
+        None => Ok(store),
+        Some(event) => store.keep(alloc, disk, account, m, event, change.freed.as_slice()),
     }
 }

@@ -1,4 +1,4 @@
-// Keeping an event of a holding in its journal.
+// Keeping an event of a store in its journal.
 ghost use Rattle.std.specs.Prelude.{◌≡◌, ◌≤◌, ◌<◌, ◌+◌, ◌++◌, [], ◌∷◌, ℕ, List as Items, None, true, IsTrue, IsSome, IsErrOf, IfOk, length};
 ghost use Rattle.glacier_bodies.specs.BlobAreas.{IsOpen, with_blob};
 ghost use Rattle.glacier_bodies.specs.Blobs.{Holds};
@@ -17,9 +17,9 @@ ghost use Rattle.glacier_replay.specs.Made.{IsRest, record_of};
 ghost use Rattle.glacier_replay.specs.Replayed.{replayed};
 ghost use Rattle.glacier_vault.specs.declared.state.AccountState.{AccountState};
 ghost use Rattle.glacier_store.specs.Calls.{StoreCall};
-ghost use Rattle.glacier_store.specs.HoldingCalls.{HasFreed, IsEventOf, Keeps, Lengthens, event_at, record_room};
+ghost use Rattle.glacier_store.specs.Calls.{HasFreed, IsEventOf, Commits, Lengthens, event_at, record_room};
 
-use crate::{Holding, StoreFault};
+use crate::{Store, StoreFault};
 use glacier_base::{Account, List, Memory, Moment};
 use glacier_bodies::{BlobArea, Layout};
 use glacier_disk::Disk;
@@ -61,41 +61,41 @@ fn give_back(area: &mut BlobArea, account: &Account, numbers: &[u64])
 /// Appends the record of an event, and then gives back the blocks of the blobs that it frees. It
 /// takes no memory.
 fn append<D: Disk>(
-    holding: Holding,
+    store: Store,
     disk: &mut D,
     frame: &Frame,
     account: &Account,
     freed: &[u64],
-) -> Result<Holding, StoreFault>
+) -> Result<Store, StoreFault>
     requires opened { (D.told disk.old).opened ≡ true }
 
-    ensures accounts { IfOk result (λ done. done.accounts ≡ holding.accounts) }
+    ensures accounts { IfOk result (λ done. done.accounts ≡ store.accounts) }
     ensures blobs { IfOk result (λ done.
-        done.area.blobs ≡ without_blobs holding.area.blobs account.now freed.now) }
-    ensures rest { IfOk result (λ done. AreApart holding.area.blobs →
-        IsRest holding.area.free holding.area.blobs → IsRest done.area.free done.area.blobs) }
+        done.area.blobs ≡ without_blobs store.area.blobs account.now freed.now) }
+    ensures rest { IfOk result (λ done. AreApart store.area.blobs →
+        IsRest store.area.free store.area.blobs → IsRest done.area.free done.area.blobs) }
 
-    ensures appends { IsTrue D.tells → Appends holding.journal.area holding.journal.length
+    ensures appends { IsTrue D.tells → Appends store.journal.area store.journal.length
         frame.now (D.told disk.old) (D.told disk.new) }
     ensures acknowledged { IsTrue D.tells → (payloads : Payloads) →
-        AllList (D.told disk.old).leaves holding.journal.area payloads holding.journal.length →
-        IfOk result (λ done. IsDurable (D.told disk.old) (D.told disk.new) holding.journal.area
+        AllList (D.told disk.old).leaves store.journal.area payloads store.journal.length →
+        IfOk result (λ done. IsDurable (D.told disk.old) (D.told disk.new) store.journal.area
         done.journal.area (payloads ++ frame.now ∷ []) done.journal.length) }
 
-    ensures lengthens { Lengthens holding.journal (length frame.now + 5) result }
+    ensures lengthens { Lengthens store.journal (length frame.now + 5) result }
     ensures no_memory { IsErrOf result StoreFault.Memory → ⊥ }
     ensures call { StoreCall (D.told disk.old) (D.told disk.new) result }
     ensures alone { D.by_disk disk.old disk.new }
 {
-    let Holding {
+    let Store {
         accounts,
         mut area,
         journal,
-    } = holding;
+    } = store;
     match journal.append(disk, frame) {
         Ok(journal) => {
             give_back(&mut area, account, freed);
-            Ok(Holding {
+            Ok(Store {
                 accounts,
                 area,
                 journal,
@@ -105,11 +105,11 @@ fn append<D: Disk>(
     }
 }
 
-impl Holding {
-    /// Keeps an event that has no body in the journal. The accounts are those after it already; the
+impl Store {
+    /// Commits an event that has no body in the journal. The accounts are those after it already; the
     /// blobs that it frees go once it is kept.
     ///
-    /// After an error there is no holding: `Disk` says that a call of the disk failed, `Memory` is
+    /// After an error there is no store: `Disk` says that a call of the disk failed, `Memory` is
     /// want of memory, and `End` that the journal is as long as it can be.
     pub fn keep<D: Disk>(
         self,
@@ -119,7 +119,7 @@ impl Holding {
         m: Moment,
         event: &Event,
         freed: &[u64],
-    ) -> Result<Holding, StoreFault>
+    ) -> Result<Store, StoreFault>
         requires opened { (D.told disk.old).opened ≡ true }
         requires plain { body_in event.now ≡ None }
         requires fits { (a : AccountState) × IsSome (replayed a m event.now) }
@@ -129,7 +129,7 @@ impl Holding {
             HasFreed self.area done.area account.now freed.now) }
         ensures keeps { IsTrue D.tells → (before : State) →
             IsEventOf before.accounts self.accounts (event_at account.now m event.now []) freed.now →
-            Keeps (D.told disk.old) (D.told disk.new) self.journal self.area [] before
+            Commits (D.told disk.old) (D.told disk.new) self.journal self.area [] before
             (after_account_event before (event_at account.now m event.now [])) result }
         ensures lengthens { Lengthens self.journal
             (record_room (event_at account.now m event.now []) []) result }
@@ -141,11 +141,11 @@ impl Holding {
         append(self, disk, &frame, account, freed)
     }
 
-    /// Keeps an event whose body lies in blocks of its own, which become the blob of this number.
+    /// Commits an event whose body lies in blocks of its own, which become the blob of this number.
     /// It is named in memory before the record is appended, and nothing takes memory after that.
     /// The accounts are those after the event already; the blobs that it frees go once it is kept.
     ///
-    /// After an error there is no holding: `Disk` says that a call of the disk failed, `Memory` is
+    /// After an error there is no store: `Disk` says that a call of the disk failed, `Memory` is
     /// want of memory, and `End` that the journal is as long as it can be.
     pub fn keep_body<D: Disk>(
         self,
@@ -157,7 +157,7 @@ impl Holding {
         freed: &[u64],
         number: u64,
         layout: Layout,
-    ) -> Result<Holding, StoreFault>
+    ) -> Result<Store, StoreFault>
         requires opened { (D.told disk.old).opened ≡ true }
         requires body { IsSome (body_in event.now) }
         requires count { block_count layout ≡ leaf_count event.now }
@@ -174,14 +174,14 @@ impl Holding {
             IsEventOf before.accounts self.accounts (event_at account.now m event.now body) freed.now →
             number ≡ (account_in before.accounts account.now).counter →
             IsBodyOf event.now body → Holds layout body ((D.told disk.old).reads Blobs) →
-            Keeps (D.told disk.old) (D.told disk.new) self.journal self.area layout before
+            Commits (D.told disk.old) (D.told disk.new) self.journal self.area layout before
             (after_account_event before (event_at account.now m event.now body)) result }
         ensures lengthens { Lengthens self.journal
             (record_room (event_at account.now m event.now []) layout) result }
         ensures call { StoreCall (D.told disk.old) (D.told disk.new) result }
         ensures alone { D.by_disk disk.old disk.new }
     {
-        let Holding {
+        let Store {
             accounts,
             mut area,
             journal,
@@ -190,7 +190,7 @@ impl Holding {
         let frame = record_frame(alloc, account, m, event, layout.runs())?;
         area.name_blob(alloc, *account, number, layout)?;
         append(
-            Holding {
+            Store {
                 accounts,
                 area,
                 journal,

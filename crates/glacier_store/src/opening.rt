@@ -1,29 +1,29 @@
-// A holding that is made, or read from a disk.
+// A store that is made, or read from a disk.
 ghost use Rattle.std.specs.Prelude.{◌≡◌, ◌⊎◌, ℕ, true, IsTrue, IfOk, IfErr};
 ghost use Rattle.glacier_disk.specs.declared.area.Area.{Area};
 ghost use Rattle.glacier_replay.specs.Made.{IsRest};
 ghost use Rattle.glacier_store.specs.Calls.{StoreCall};
-ghost use Rattle.glacier_store.specs.Held.{HoldsNothing};
-ghost use Rattle.glacier_store.specs.HoldingCalls.{Founds, Recovers};
+ghost use Rattle.glacier_store.specs.Kept.{HoldsNothing};
+ghost use Rattle.glacier_store.specs.Calls.{Creates, Opens};
 
-use crate::{Holding, StoreFault};
+use crate::{Store, StoreFault};
 use glacier_bodies::BlobArea;
 use glacier_disk::{Area, Disk};
 use glacier_journal::Journal;
 use glacier_replay::{Accounts, Restored, Unmade, replay_all};
 use std::alloc::Global;
 
-impl Holding {
-    /// Makes a holding of no account on a disk of which all areas are empty.
+impl Store {
+    /// Makes a store of no account on a disk of which all areas are empty.
     ///
     /// `Disk` says that a call of the disk failed, `Memory` is want of memory, and `NotEmpty` names
     /// the first area that isn't empty, with its size in bytes.
-    pub fn create<D: Disk>(alloc: Global, disk: &mut D) -> Result<Holding, StoreFault>
+    pub fn create<D: Disk>(alloc: Global, disk: &mut D) -> Result<Store, StoreFault>
         requires { (D.told disk.old).opened ≡ true }
 
         ensures nothing { IfOk result HoldsNothing }
-        ensures founds { IsTrue D.tells →
-            Founds (D.told disk.old) (D.told disk.new) result }
+        ensures creates { IsTrue D.tells →
+            Creates (D.told disk.old) (D.told disk.new) result }
 
         ensures no_other { IfErr result (λ fault. (fault ≡ StoreFault.Disk)
             ⊎ ((fault ≡ StoreFault.Memory)
@@ -33,7 +33,7 @@ impl Holding {
     {
         let area = BlobArea::new(alloc)?;
         match Journal::create(disk) {
-            Ok(journal) => Ok(Holding {
+            Ok(journal) => Ok(Store {
                 accounts: Accounts::empty(alloc),
                 area,
                 journal,
@@ -42,15 +42,15 @@ impl Holding {
         }
     }
 
-    /// Reads the holding that a crash may have left.
+    /// Reads the store that a crash may have left.
     ///
     /// `Disk` says that a call of the disk failed, `Memory` is want of memory, and `NotAJournal`
     /// names the first place that keeps the disk from being one.
-    pub fn open<D: Disk>(alloc: Global, disk: &mut D) -> Result<Holding, StoreFault>
+    pub fn open<D: Disk>(alloc: Global, disk: &mut D) -> Result<Store, StoreFault>
         requires { (D.told disk.old).opened ≡ true }
 
-        ensures recovers { IsTrue D.tells → Recovers (D.told disk.old) (D.told disk.new) result }
-        ensures rest { IfOk result (λ holding. IsRest holding.area.free holding.area.blobs) }
+        ensures opens { IsTrue D.tells → Opens (D.told disk.old) (D.told disk.new) result }
+        ensures rest { IfOk result (λ store. IsRest store.area.free store.area.blobs) }
 
         ensures no_other { IfErr result (λ fault. (fault ≡ StoreFault.Disk)
             ⊎ ((fault ≡ StoreFault.Memory)
@@ -65,7 +65,7 @@ impl Holding {
         match replay_all(alloc, payloads.as_slice()) {
             Ok(restored) => {
                 let Restored { accounts, area } = restored;
-                Ok(Holding {
+                Ok(Store {
                     accounts,
                     area,
                     journal,

@@ -4,16 +4,16 @@ ghost use Rattle.std.specs.Option.{option_copied};
 ghost use Rattle.glacier_bodies.specs.Calls.{BlobCall};
 ghost use Rattle.glacier_disk.specs.Calls.{Rests};
 ghost use Rattle.glacier_replay.specs.Changes.{State};
-ghost use Rattle.glacier_store.specs.Held.{IsHeldBy};
+ghost use Rattle.glacier_store.specs.Kept.{IsHeldBy};
 ghost use Rattle.glacier_store.specs.Outputs.{archive_in, stretch_bytes};
 
-use crate::Holding;
+use crate::Store;
 use glacier_base::{Account, Failed};
 use glacier_disk::Disk;
 use glacier_machine::{Stretch, stored_archive};
 use glacier_vault::Archive;
 
-impl Holding {
+impl Store {
     /// The archive that a stretch is of, if it is there.
     #[tactic(auto, using(crate::proofs::OutputLemmas::none_stored))]
     fn archive_of(&self, account: &Account, stretch: &Stretch) -> Option<&Archive>

@@ -1,4 +1,4 @@
-// Bodies of a holding: they stream into free blocks, and are read from theirs.
+// Bodies of a store: they stream into free blocks, and are read from theirs.
 ghost use Rattle.std.specs.Prelude.{◌≡◌, ◌≤◌, ◌<◌, ◌+◌, ◌%◌, ◌++◌, ℕ, List as Items, [], true, IsTrue, IfOk, OnOk, OnErr, length, take, drop};
 ghost use Rattle.std.specs.Int.{div_ceil};
 ghost use Rattle.glacier_bodies.specs.BlobAreas.{IsOpen, bytes_of};
@@ -11,10 +11,10 @@ ghost use Rattle.glacier_extents.specs.Runs.{block_count};
 ghost use Rattle.glacier_replay.specs.Changes.{State};
 ghost use Rattle.glacier_replay.specs.Made.{IsRest};
 ghost use Rattle.glacier_replay.specs.Standing.{IsTold};
-ghost use Rattle.glacier_store.specs.Held.{IsHeldBy, IsRestBeside};
-ghost use Rattle.glacier_store.specs.HoldingCalls.{HasBegun, KeepsHeld, OnlyFree};
+ghost use Rattle.glacier_store.specs.Kept.{IsHeldBy, IsRestBeside};
+ghost use Rattle.glacier_store.specs.Calls.{HasBegun, KeepsHeld, OnlyFree};
 
-use crate::Holding;
+use crate::Store;
 use glacier_base::{Account, Failed, Memory};
 use glacier_bodies::{Body, Layout};
 use glacier_disk::Disk;
@@ -23,7 +23,7 @@ use glacier_treehash::Gate;
 use std::alloc::Global;
 use std::thread::Threads;
 
-impl Holding {
+impl Store {
     /// Opens a body of so many bytes, in the lowest free blocks. No later call of the body takes
     /// memory before it is kept. After an `Err` nothing has changed: fewer blocks are free than the
     /// body needs, or memory is wanting.

@@ -6,8 +6,8 @@ use Rattle.glacier_store.proofs.committing.append.Goals as goal
 
 pub invariant_of-result : goal.invariant_of-result
 invariant_of-result g c =
-    let holding = c.args.holding in
+    let store = c.args.store in
     record {
-      drawn = subst (λ (l : Layouts). AreDrawn holding.accounts l) (sym c.give_back.ensures.blobs)
-          (drawn_without holding.accounts holding.area.blobs c.args.account.now c.args.freed.now holding.drawn);
+      drawn = subst (λ (l : Layouts). AreDrawn store.accounts l) (sym c.give_back.ensures.blobs)
+          (drawn_without store.accounts store.area.blobs c.args.account.now c.args.freed.now store.drawn);
     }

@@ -1,6 +1,6 @@
 use Rattle.std.proofs.Common.{[], arith}
 use Rattle.glacier_extents.specs.FreeRuns.{blocks}
-use Rattle.glacier_store.specs.HoldingCalls.{event_at}
+use Rattle.glacier_store.specs.Calls.{event_at}
 use Rattle.glacier_store.proofs.RoomLemmas.{short_record}
 use Rattle.glacier_store.proofs.committing.record_frame.Goals as goal
 

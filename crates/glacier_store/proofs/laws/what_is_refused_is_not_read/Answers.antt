@@ -1,4 +1,4 @@
-use Rattle.glacier_store.proofs.StandsLemmas.{refused_reads_none}
+use Rattle.glacier_store.proofs.OpenLemmas.{refused_reads_none}
 use Rattle.glacier_store.proofs.laws.what_is_refused_is_not_read.Goals as goal
 
 pub returns : goal.returns

@@ -1,6 +1,0 @@
-use Rattle.glacier_store.proofs.AccountLemmas.{put_lawful}
-use Rattle.glacier_store.proofs.accounts.Accounts.put.Goals as goal
-
-pub invariant_of-self : goal.invariant_of-self
-invariant_of-self c =
-    put_lawful c.insert.result _ _ _ _ c.insert.ensures.ok c.insert.ensures.err c.self.invariant c.requires

@@ -1,0 +1,5 @@
+use Rattle.glacier_store.proofs.StepLemmas.{moment_made, step_made}
+use Rattle.glacier_store.proofs.laws.steps_are_done_again.Goals as goal
+
+pub returns : goal.returns
+returns c = record { step = step_made; time = moment_made }
