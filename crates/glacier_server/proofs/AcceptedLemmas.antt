@@ -18,7 +18,7 @@ use Rattle.glacier_server.specs.Transfer.{Transfer, Fails, current, others}
 use Rattle.glacier_server.specs.Does.{Does, Failing, nothing, receiving, sending, breaking}
 use Rattle.glacier_server.proofs.DoesLemmas.{does_then, does_says, does_quiet, does_close, ends_well}
 use Rattle.glacier_server.proofs.StepLemmas.{current-snoc, others-snoc}
-use Rattle.glacier_store.specs.declared.store.Store.{Store}
+use Rattle.glacier_server.specs.Placed.{Placed}
 
 -- the open connection is the last
 last_is : (cs before : List Connection) (last : Connection) → cs ≡ before ++ last ∷ []
@@ -37,13 +37,13 @@ own_end ReadFault never = absurd (cc)
 own_end SendFault never = absurd (cc)
 
 -- no accept breaks a connection off
-no_accept : (config : Config) (store : Store) (last : Option (Turn × ℕ)) (acts : List Act)
-    → LastBroken config store last acts Accept → ⊥
-no_accept config store None acts x = let never : Accept ≡ Memory = x.0 in cc
-no_accept config store (Some last) acts x = x
+no_accept : (config : Config) (placed : Placed) (last : Option (Turn × ℕ)) (acts : List Act)
+    → LastBroken config placed last acts Accept → ⊥
+no_accept config placed None acts x = let never : Accept ≡ Memory = x.0 in cc
+no_accept config placed (Some last) acts x = x
 
 -- from an accept to the end of its connection, which was closed then
-module _ (old start done new : Told) {store : Store} (opens : JustAccepted old start store)
+module _ (old start done new : Told) {placed : Placed} (opens : JustAccepted old start placed)
     (last : (before : List Connection) × (d : Connection)
     × (done.connections ≡ before ++ d ∷ [])) (closes : HangUpCall done new) where
   c : Connection
@@ -55,7 +55,7 @@ module _ (old start done new : Told) {store : Store} (opens : JustAccepted old s
   begins : wait_of (current start.connections) ≡ begun
   begins = ap wait_of fresh
 
-  module _ (s : Session) (after : Store) {failing : Failing} (starts : s.before ≡ store) (leaves : s.after ≡ after)
+  module _ (s : Session) (after : Placed) {failing : Failing} (starts : s.before ≡ placed) (leaves : s.after ≡ after)
       (x : Transfer start done s failing) where
     all_of : IsSessionOf c s
     unfolding c
@@ -89,14 +89,14 @@ module _ (old start done new : Told) {store : Store} (opens : JustAccepted old s
     }
 
     -- what was done till the connection was closed
-    did : Does old done store after (acts_of (s ∷ [])) failing
+    did : Does old done placed after (acts_of (s ∷ [])) failing
     did =
-        subst (λ (k : Store). Does old done store k (acts_of (s ∷ [])) failing) leaves
+        subst (λ (k : Placed). Does old done placed k (acts_of (s ∷ [])) failing) leaves
         (does_says (ap (λ (l : List Act). accept ∷ l) (sym (append-nil s.acts))) (does_then opens.does (subst (λ
-        (k : Store). Does start done k s.after s.acts failing) starts x.does)))
+        (k : Placed). Does start done k s.after s.acts failing) starts x.does)))
 
-  pub serves_one : {config : Config} {after : Store} {end : End} → ServedLast config start done store after end
-      → old.listener.to_come ≡ 1 + new.listener.to_come → Serves config old new store after 1
+  pub serves_one : {config : Config} {after : Placed} {end : End} → ServedLast config start done placed after end
+      → old.listener.to_come ≡ 1 + new.listener.to_come → Serves config old new placed after 1
   unfolding c
   serves_one {config = config} {after = after} {end = end} x come = record {
     came = c ∷ [];
@@ -121,8 +121,8 @@ module _ (old start done new : Told) {store : Store} (opens : JustAccepted old s
     );
   }
 
-  pub breaks_one : {config : Config} (fault : ServeFault) → PartLast config start done store fault
-      → Breaks config old new store 1 fault
+  pub breaks_one : {config : Config} (fault : ServeFault) → PartLast config start done placed fault
+      → Breaks config old new placed 1 fault
   unfolding c
   breaks_one {config = config} fault x = record {
     came = c ∷ [];
@@ -147,8 +147,8 @@ module _ (old start done new : Told) {store : Store} (opens : JustAccepted old s
     }) x.broken;
   }
     where
-      by_fault : (f : ServeFault) → BreaksLast config (c ∷ []) (x.session ∷ []) store f
-          → BrokenBy config x.session x.part.1 f → ServedTill config f (c ∷ []) (x.session ∷ []) store x.session.after
+      by_fault : (f : ServeFault) → BreaksLast config (c ∷ []) (x.session ∷ []) placed f
+          → BrokenBy config x.session x.part.1 f → ServedTill config f (c ∷ []) (x.session ∷ []) placed x.session.after
       by_fault Disk y is = y
       by_fault Memory y is = y
       by_fault (JournalEnd end) y is = y

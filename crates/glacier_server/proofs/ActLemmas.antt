@@ -2,8 +2,9 @@
 use Rattle.std.proofs.Common.{◌≡◌, ℕ, List, [], ◌∷◌, ◌++◌, refl, sym, ap, ◌∙◌, append_assoc}
 use Rattle.glacier_disk.specs.Network.{on_last}
 use Rattle.glacier_disk.proofs.Connections.{on_last-nil}
-use Rattle.glacier_machine.specs.Outcomes.{after_all, after_account_event}
-use Rattle.glacier_vault.specs.Accounts.{Accounts, AccountEvent}
+use Rattle.glacier_replay.specs.Changes.{after_account_event, after_all}
+use Rattle.glacier_replay.specs.Changes.{State}
+use Rattle.glacier_vault.specs.Accounts.{AccountEvent}
 use Rattle.glacier_server.specs.Acts.{Act, accept, send, keep, sends, keeps, bytes_of, events_in, sent_by, after_acts}
 
 -- the parts of acts one after another
@@ -19,12 +20,12 @@ events_in-append (accept ∷ first) more = events_in-append first more
 events_in-append (send b ∷ first) more = events_in-append first more
 events_in-append (keep h ∷ first) more = ap (λ (l : List AccountEvent). h ∷ l) (events_in-append first more)
 
-pub after_append : (state : Accounts) (first more : List AccountEvent)
+pub after_append : (state : State) (first more : List AccountEvent)
     → after_all state (first ++ more) ≡ after_all (after_all state first) more
 after_append state [] more = refl
 after_append state (h ∷ first) more = after_append (after_account_event state h) first more
 
-pub after_acts-append : (state : Accounts) (first more : List Act)
+pub after_acts-append : (state : State) (first more : List Act)
     → after_acts state (first ++ more) ≡ after_acts (after_acts state first) more
 after_acts-append state first more = ap (after_all state) (events_in-append first more)
     ∙ after_append state (events_in first) (events_in more)
@@ -72,9 +73,9 @@ pub sent_by-sends : (bytes : List ℕ) (sent : List (List ℕ)) → sent_by (sen
 sent_by-sends [] sent = sym (on_last-nil sent)
 sent_by-sends (b ∷ bytes) sent = sent_by-sends bytes (on_last (b ∷ []) sent) ∙ on_last-more b bytes sent
 
-pub after-sends : (state : Accounts) (bytes : List ℕ) → after_acts state (sends bytes) ≡ state
+pub after-sends : (state : State) (bytes : List ℕ) → after_acts state (sends bytes) ≡ state
 after-sends state bytes = ap (after_all state) (events_in-sends bytes)
 
-pub after-keeps : (state : Accounts) (events : List AccountEvent)
+pub after-keeps : (state : State) (events : List AccountEvent)
     → after_acts state (keeps events) ≡ after_all state events
 after-keeps state events = ap (after_all state) (events_in-keeps events)

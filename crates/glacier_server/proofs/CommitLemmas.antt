@@ -4,7 +4,8 @@ use Rattle.std.proofs.lemmas.List.{take-map, map-append}
 use Rattle.std.proofs.Math.Seq.{take-append-add, take-append_seam}
 use Rattle.glacier_disk.specs.Told.{Told, Lawful, ByDisk}
 use Rattle.glacier_http.specs.Messages.{Message}
-use Rattle.glacier_machine.specs.Outcomes.{one, after_all}
+use Rattle.glacier_machine.specs.Outcomes.{one}
+use Rattle.glacier_replay.specs.Changes.{after_all}
 use Rattle.glacier_machine.specs.declared.config.Config.{Config}
 use Rattle.glacier_server.specs.Acts.{Act, keep, send, sends, keeps, bytes_of, events_in}
 use Rattle.glacier_server.specs.declared.end.ServeFault.{ServeFault}
@@ -21,105 +22,105 @@ use Rattle.glacier_server.proofs.ActLemmas.{bytes_of-keeps, events_in-keeps}
 use Rattle.glacier_server.proofs.EventLemmas.{done_is}
 use Rattle.glacier_server.proofs.StepLemmas.{keeps_all, keeps_some}
 use Rattle.glacier_server.proofs.TransferLemmas.{says, acts_then}
-use Rattle.glacier_store.specs.Stands.{Kept}
-use Rattle.glacier_store.specs.declared.store.Store.{Store}
+use Rattle.glacier_server.specs.Placed.{IsKept}
+use Rattle.glacier_server.specs.Placed.{Placed}
 use Rattle.glacier_vault.specs.Accounts.{AccountEvent}
 
-module _ (config : Config) (store : Store) (m : Message) (r : ℕ) (close : Bool) where
+module _ (config : Config) (placed : Placed) (m : Message) (r : ℕ) (close : Bool) where
   -- keeping no byte is sent
   silent : (events : List AccountEvent) (acts : List Act) → acts ≡ keeps events
-      → NoReplyTo config store.accounts (whole m) r acts
+      → NoReplyTo config placed.state (whole m) r acts
   silent events acts is = (
-    interim config store.accounts m r,
-    ap (λ (l : List ℕ). l ++ interim config store.accounts m r) (sym (ap bytes_of is ∙ bytes_of-keeps events)),
+    interim config placed.state m r,
+    ap (λ (l : List ℕ). l ++ interim config placed.state m r) (sym (ap bytes_of is ∙ bytes_of-keeps events)),
   )
 
   -- first ones of its events, and nothing else, are a first part of what is done
-  seam : (first more : List AccountEvent) → happened config store.accounts m r ≡ first ++ more
-      → take (length (keeps first)) (done config store.accounts m r close) ≡ keeps first
+  seam : (first more : List AccountEvent) → happened config placed.state m r ≡ first ++ more
+      → take (length (keeps first)) (done config placed.state m r close) ≡ keeps first
   seam first more is =
-      ap (take (length (keeps first))) (done_is config store.accounts m r close
-      ∙ ap (λ (l : List AccountEvent). keeps l ++ sends (reply config store.accounts m r close)) is
-      ∙ ap (λ (l : List Act). l ++ sends (reply config store.accounts m r close)) (map-append keep first more)
-      ∙ append_assoc (keeps first) (keeps more) (sends (reply config store.accounts m r close)))
-      ∙ take-append_seam (keeps first) (keeps more ++ sends (reply config store.accounts m r close))
+      ap (take (length (keeps first))) (done_is config placed.state m r close
+      ∙ ap (λ (l : List AccountEvent). keeps l ++ sends (reply config placed.state m r close)) is
+      ∙ ap (λ (l : List Act). l ++ sends (reply config placed.state m r close)) (map-append keep first more)
+      ∙ append_assoc (keeps first) (keeps more) (sends (reply config placed.state m r close)))
+      ∙ take-append_seam (keeps first) (keeps more ++ sends (reply config placed.state m r close))
 
   -- calls of the store
   module _ {old new : Told} (law : Lawful new) (alone : ByDisk old new) where
     -- keep them
-    pub committed : {T : Type 0} (x : T × Store) → KeepsOutcome old new store (one config store.accounts m r) (Ok x)
-        → Transfer old new (acting store x.1 (keeps (happened config store.accounts m r))) nothing
+    pub committed : {T : Type 0} (x : T × Placed) → KeepsOutcome old new placed (one config placed.state m r) (Ok x)
+        → Transfer old new (acting placed x.1 (keeps (happened config placed.state m r))) nothing
     unfolding happened
-    committed x keeps = keeps_all law alone store (happened config store.accounts m r) keeps.any_moment x.1
-        keeps.accounts keeps.grew keeps.kept
+    committed x keeps = keeps_all law alone placed (happened config placed.state m r) keeps.any_moment x.1
+        keeps.state keeps.grew keeps.kept
 
     -- or break the server off, behind some first ones of these
-    behind : (fault : ServeFault) (first more : List AccountEvent) → happened config store.accounts m r ≡ first ++ more
-        → (Kept old store → KeepsFirst old new store.accounts first)
-        → ((acts : List Act) → acts ≡ keeps first → BrokenFor config store (whole m) r acts fault)
-        → (k : ℕ) × (after : Store)
-        × Transfer old new (acting store after (take k (done config store.accounts m r close))) breaking
-        × BrokenFor config store (whole m) r (take k (done config store.accounts m r close)) fault
+    behind : (fault : ServeFault) (first more : List AccountEvent) → happened config placed.state m r ≡ first ++ more
+        → (IsKept old placed → KeepsFirst old new placed.state first)
+        → ((acts : List Act) → acts ≡ keeps first → BrokenFor config placed (whole m) r acts fault)
+        → (k : ℕ) × (after : Placed)
+        × Transfer old new (acting placed after (take k (done config placed.state m r close))) breaking
+        × BrokenFor config placed (whole m) r (take k (done config placed.state m r close)) fault
     behind fault first more is leaves broken =
-        let after = record store { accounts = after_all store.accounts first } in
+        let after = record placed { accounts = after_all placed.state first } in
         let k = length (keeps first) in
-        let same : take k (done config store.accounts m r close) ≡ keeps first = seam first more is in (
+        let same : take k (done config placed.state m r close) ≡ keeps first = seam first more is in (
           k,
           after,
-          says (acting store after (keeps first)) (take k (done config store.accounts m r close)) (sym same)
-              (keeps_some law alone store first leaves),
-          broken (take k (done config store.accounts m r close)) same,
+          says (acting placed after (keeps first)) (take k (done config placed.state m r close)) (sym same)
+              (keeps_some law alone placed first leaves),
+          broken (take k (done config placed.state m r close)) same,
         )
 
     pub broke : {T : Type 0} (fault : ServeFault) → HasBroken fault old new
-        → KeepsOutcome {T = T} old new store (one config store.accounts m r) (Err fault)
-        → (k : ℕ) × (after : Store)
-        × Transfer old new (acting store after (take k (done config store.accounts m r close))) breaking
-        × BrokenFor config store (whole m) r (take k (done config store.accounts m r close)) fault
+        → KeepsOutcome {T = T} old new placed (one config placed.state m r) (Err fault)
+        → (k : ℕ) × (after : Placed)
+        × Transfer old new (acting placed after (take k (done config placed.state m r close))) breaking
+        × BrokenFor config placed (whole m) r (take k (done config placed.state m r close)) fault
     unfolding happened passed caused
     broke Disk is x =
-        behind Disk (happened config store.accounts m r) [] (sym (append-nil _)) x.any_moment
-        (λ acts are. silent (happened config store.accounts m r) acts are)
+        behind Disk (happened config placed.state m r) [] (sym (append-nil _)) x.any_moment
+        (λ acts are. silent (happened config placed.state m r) acts are)
     broke Memory is x =
-        behind Memory (passed config store.accounts m r) (caused config store.accounts m r) refl
+        behind Memory (passed config placed.state m r) (caused config placed.state m r) refl
         (λ kept. x.memory kept refl)
         (λ acts are. (
-          silent (passed config store.accounts m r) acts are,
+          silent (passed config placed.state m r) acts are,
           (
             [],
             sym (ap (λ (l : List AccountEvent). l ++ []) (ap events_in are
-                ∙ events_in-keeps (passed config store.accounts m r)) ∙ append-nil _),
+                ∙ events_in-keeps (passed config placed.state m r)) ∙ append-nil _),
           ),
         ))
     broke (JournalEnd end) is x =
-        behind (JournalEnd end) (happened config store.accounts m r) [] (sym (append-nil _)) x.any_moment
-        (λ acts are. (silent (happened config store.accounts m r) acts are, x.end end refl))
+        behind (JournalEnd end) (happened config placed.state m r) [] (sym (append-nil _)) x.any_moment
+        (λ acts are. (silent (happened config placed.state m r) acts are, x.end end refl))
     broke Accept is x = absurd is
 
-  module _ {old mid now : Told} (after : Store)
-      (kept : Transfer old mid (acting store after (keeps (happened config store.accounts m r))) nothing)
-      (text : List ℕ) (same : text ≡ reply config store.accounts m r close) where
+  module _ {old mid now : Told} (after : Placed)
+      (kept : Transfer old mid (acting placed after (keeps (happened config placed.state m r))) nothing)
+      (text : List ℕ) (same : text ≡ reply config placed.state m r close) where
     pub done_all : SentAll mid now text
-        → Transfer old now (acting store after (done config store.accounts m r close)) nothing
+        → Transfer old now (acting placed after (done config placed.state m r close)) nothing
     done_all sent =
-        says (acting store after (keeps (happened config store.accounts m r) ++ sends
-        (reply config store.accounts m r close))) (done config store.accounts m r close)
-        (sym (done_is config store.accounts m r close))
-        (acts_then (acting store after (keeps (happened config store.accounts m r))) after
-        (sends (reply config store.accounts m r close)) kept
-        (says (acting after after (sends text)) (sends (reply config store.accounts m r close)) (ap sends same)
+        says (acting placed after (keeps (happened config placed.state m r) ++ sends
+        (reply config placed.state m r close))) (done config placed.state m r close)
+        (sym (done_is config placed.state m r close))
+        (acts_then (acting placed after (keeps (happened config placed.state m r))) after
+        (sends (reply config placed.state m r close)) kept
+        (says (acting after after (sends text)) (sends (reply config placed.state m r close)) (ap sends same)
         (sent after)))
 
     pub done_part : SentPart mid now text → (k : ℕ)
-        × Transfer old now (acting store after (take k (done config store.accounts m r close))) sending
+        × Transfer old now (acting placed after (take k (done config placed.state m r close))) sending
     done_part (n, sent) =
-        let first = keeps (happened config store.accounts m r) in
-        let whole_text = reply config store.accounts m r close in (
+        let first = keeps (happened config placed.state m r) in
+        let whole_text = reply config placed.state m r close in (
           length first + n,
-          says (acting store after (first ++ sends (take n text)))
-              (take (length first + n) (done config store.accounts m r close))
+          says (acting placed after (first ++ sends (take n text)))
+              (take (length first + n) (done config placed.state m r close))
               (ap (λ (l : List Act). first ++ l) (ap (λ (l : List ℕ). sends (take n l)) same
               ∙ sym (take-map send n whole_text)) ∙ sym (take-append-add first (sends whole_text) n)
-              ∙ ap (take (length first + n)) (sym (done_is config store.accounts m r close)))
-              (acts_then (acting store after first) after (sends (take n text)) kept (sent after)),
+              ∙ ap (take (length first + n)) (sym (done_is config placed.state m r close)))
+              (acts_then (acting placed after first) after (sends (take n text)) kept (sent after)),
         )

@@ -18,45 +18,45 @@ use Rattle.glacier_server.proofs.RunLemmas.{SoFar, goes_on, stops, breaks, broke
 use Rattle.glacier_server.proofs.RunLemmas as run
 use Rattle.glacier_server.proofs.SessionLemmas.{joined, held_then}
 use Rattle.glacier_server.proofs.TransferLemmas.{stays, then, moved, breaks_off}
-use Rattle.glacier_store.specs.declared.store.Store.{Store}
+use Rattle.glacier_server.specs.Placed.{Placed}
 
 -- as many messages were answered on the last connection as it stands behind
-pub record SoFarLast (config : Config) (old new : Told) (store : Store) (at : Standing) : Type 0 where
+pub record SoFarLast (config : Config) (old new : Told) (placed : Placed) (at : Standing) : Type 0 where
   pub session : Session
-  pub starts : session.before ≡ store
+  pub starts : session.before ≡ placed
   pub transfer : Transfer old new session nothing
   pub so_far : SoFar config session at None
   pub prompt : IsPrompt config (wait_of (current old.connections)) session
 
-module _ {config : Config} {a : Told} {store : Store} where
+module _ {config : Config} {a : Told} {placed : Placed} where
   -- before the first message
-  pub at_start : (unread : List ℕ) → unread ≡ [] → SoFarLast config a a store (standing 0 unread store)
+  pub at_start : (unread : List ℕ) → unread ≡ [] → SoFarLast config a a placed (standing 0 unread placed)
   at_start unread none = record {
-    session = taking store [] [];
+    session = taking placed [] [];
     starts = refl;
-    transfer = stays a store;
-    so_far = subst (λ (l : List ℕ). SoFar config (taking store [] []) (standing 0 l store) None) (sym none)
-        (run.nothing config store);
+    transfer = stays a placed;
+    so_far = subst (λ (l : List ℕ). SoFar config (taking placed [] []) (standing 0 l placed) None) (sym none)
+        (run.nothing config placed);
     prompt = All-nil _;
   }
 
   -- no memory for the first
-  pub never_began : PartLast config a a store Memory
+  pub never_began : PartLast config a a placed Memory
   never_began = record {
-    session = taking store [] [];
+    session = taking placed [] [];
     starts = refl;
-    transfer = breaks_off (taking store [] []) (stays a store);
-    part = part_none config store;
-    broken = nothing_none config store;
+    transfer = breaks_off (taking placed [] []) (stays a placed);
+    part = part_none config placed;
+    broken = nothing_none config placed;
     prompt = All-nil _;
   }
 
-  module _ {b : Told} {from : Standing} (x : SoFarLast config a b store from) where
-    leads : (t : Session) → t.before ≡ from.store → t.before ≡ x.session.after
+  module _ {b : Told} {from : Standing} (x : SoFarLast config a b placed from) where
+    leads : (t : Session) → t.before ≡ from.placed → t.before ≡ x.session.after
     leads t starts = starts ∙ x.so_far.store
 
     -- at each wait of an exchange, all was done that was due
-    prompt_then : (t : Session) → t.before ≡ from.store
+    prompt_then : (t : Session) → t.before ≡ from.placed
         → HeldWaiting (wait_of (current b.connections)) t (λ till. Idles config (exchange_on from [] [] till))
         → IsPrompt config (wait_of (current a.connections)) (joined x.session t)
     prompt_then t starts idle =
@@ -68,7 +68,7 @@ module _ {config : Config} {a : Told} {store : Store} where
 
     -- one more
     pub one_more_last : {c : Told} (to : Standing) → from.count + 1 ≡ to.count → Exchanges config from to b c None
-        → SoFarLast config a c store to
+        → SoFarLast config a c placed to
     one_more_last {c = c} to counts y =
         let next = goes_on config x.session y.session from x.so_far y.starts to.unread
         (current c.connections).coming None y.exchange.0 in record {
@@ -78,13 +78,13 @@ module _ {config : Config} {a : Told} {store : Store} where
           so_far = subst (λ (k : Standing). SoFar config (joined x.session y.session) k None)
               (ap (λ (n : ℕ). standing n y.exchange.0.rest y.session.after) counts
               ∙ ap (λ (l : List ℕ). standing to.count l y.session.after) y.exchange.1
-              ∙ ap (λ (k : Store). standing to.count to.unread k) y.leaves) next;
+              ∙ ap (λ (k : Placed). standing to.count to.unread k) y.leaves) next;
           prompt = prompt_then y.session y.starts y.idle;
         }
 
     -- the end
     pub served_last : {c : Told} {to : Standing} {e : End} → Exchanges config from to b c (Some e)
-        → ServedLast config a c store to.store e
+        → ServedLast config a c placed to.placed e
     served_last {c = c} {to = to} {e = e} y =
         let moves = then x.session y.session (leads y.session y.starts) x.transfer y.transfer in record {
           session = joined x.session y.session;
@@ -98,7 +98,7 @@ module _ {config : Config} {a : Told} {store : Store} where
 
     -- the server broke off
     pub part_last : {c : Told} {fault : ServeFault} → BreaksOff config from b c fault
-        → PartLast config a c store fault
+        → PartLast config a c placed fault
     part_last {fault = fault} y =
         let moves = then x.session y.session (leads y.session y.starts) x.transfer y.transfer in record {
           session = joined x.session y.session;

@@ -5,7 +5,8 @@ use Rattle.std.proofs.lemmas.List.{take-append-le}
 use Rattle.std.proofs.Math.Seq.{take-append-add}
 use Rattle.std.specs.Option.{is_some}
 use Rattle.glacier_http.specs.Messages.{Message, last_end}
-use Rattle.glacier_vault.specs.Accounts.{Accounts, AccountEvent}
+use Rattle.glacier_replay.specs.Changes.{State}
+use Rattle.glacier_vault.specs.Accounts.{AccountEvent}
 use Rattle.glacier_machine.specs.declared.config.Config.{Config}
 use Rattle.glacier_server.specs.Acts.{Act, sends, keeps, bytes_of, events_in}
 use Rattle.glacier_server.specs.Machine.{reply, after, first_events, further}
@@ -13,7 +14,7 @@ use Rattle.glacier_server.specs.Out.{told, run, out, first_acts, interim}
 use Rattle.glacier_server.proofs.ActLemmas.{bytes_of-append, bytes_of-sends, bytes_of-keeps, events_in-append, events_in-sends}
 
 -- the acts for some messages, and then those for the others
-out_split : (config : Config) (n : ℕ) (state : Accounts) (before others : List Message) (readings more : List ℕ)
+out_split : (config : Config) (n : ℕ) (state : State) (before others : List Message) (readings more : List ℕ)
     → length readings ≡ length before
     → out config n state (before ++ others) (readings ++ more) ≡ out config n state before readings ++ out config
     (n + length before) (run config state before readings) others more
@@ -57,9 +58,9 @@ past_all first others k some = elim (cases_lt k (length first)) [
       )
 ]
 
-module _ (config : Config) (state : Accounts) (before behind : List Message) (m : Message) (readings more : List ℕ)
+module _ (config : Config) (state : State) (before behind : List Message) (m : Message) (readings more : List ℕ)
     (r k : ℕ) (each : length readings ≡ length before) where
-  mid : Accounts
+  mid : State
   mid = run config state before readings
 
   -- up to the events of the message

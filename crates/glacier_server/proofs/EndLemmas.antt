@@ -17,7 +17,7 @@ use Rattle.glacier_server.specs.Out.{told}
 use Rattle.glacier_server.specs.Session.{Session}
 use Rattle.glacier_server.specs.Turns.{whole}
 use Rattle.glacier_server.proofs.EventLemmas.{done_is}
-use Rattle.glacier_store.specs.declared.store.Store.{Store}
+use Rattle.glacier_server.specs.Placed.{Placed}
 
 -- the ends that a message makes
 IsLast : InputEnd → Type 0
@@ -51,7 +51,7 @@ exchange_of config x (Some refused) a left = a
 exchange_of config x (Some bound) a left = a
 
 -- what is done for one message: these bytes are taken, a reading, and then these acts
-abbrev pub answering : Store → Store → List ℕ → List Act → ℕ → List Wait → Session
+abbrev pub answering : Placed → Placed → List ℕ → List Act → ℕ → List Wait → Session
 answering before after taken acts r waits =
     record { before = before; after = after; taken = taken; acts = acts; readings = r ∷ []; waits = waits }
 
@@ -71,24 +71,24 @@ bad_closes n cause = go (n + 1 == MOST_MESSAGES)
 module _ (config : Config) (from : Standing) (r : ℕ) (cause : BadHead) (rest : List ℕ)
     (stands : BeginsBad from.unread cause rest) where
   text : List ℕ
-  text = reply config from.store.accounts (Bad cause) r true
+  text = reply config from.placed.state (Bad cause) r true
 
-  bad_told : told config from.count from.store.accounts (Bad cause) r ≡ sends text
+  bad_told : told config from.count from.placed.state (Bad cause) r ≡ sends text
   unfolding happened text
   bad_told =
-      done_is config from.store.accounts (Bad cause) r (is_some (last_end from.count (Bad cause)))
-      ∙ ap (λ (b : Bool). sends (reply config from.store.accounts (Bad cause) r b)) (bad_closes from.count cause)
+      done_is config from.placed.state (Bad cause) r (is_some (last_end from.count (Bad cause)))
+      ∙ ap (λ (b : Bool). sends (reply config from.placed.state (Bad cause) r b)) (bad_closes from.count cause)
 
   begins_bad : Begins (from.unread ++ []) (Bad cause) rest
   begins_bad = subst (λ (l : List ℕ). BeginsBad l cause rest) (sym (append-nil from.unread)) stands
 
   pub bad_answered : (left coming : List ℕ) (e : End) → end_for_some (last_end from.count (Bad cause)) ≡ Some e
-      → after config from.store.accounts (Bad cause) r ≡ from.store.accounts
-      → IsExchange config (exchange_on from left coming (answering from.store from.store [] (sends
-      (reply config from.store.accounts (Bad cause) r true)) r [])) (Some e)
+      → after config from.placed.state (Bad cause) r ≡ from.placed.state
+      → IsExchange config (exchange_on from left coming (answering from.placed from.placed [] (sends
+      (reply config from.placed.state (Bad cause) r true)) r [])) (Some e)
   unfolding text
   bad_answered left coming e end same =
-      let x = exchange_on from left coming (answering from.store from.store [] (sends (reply config from.store.accounts
+      let x = exchange_on from left coming (answering from.placed from.placed [] (sends (reply config from.placed.state
       (Bad cause) r true)) r []) in
       subst (λ (o : Option End). IsExchange config x o) end
       (exchange_of config x (last_end from.count (Bad cause)) (record {
@@ -103,8 +103,8 @@ module _ (config : Config) (from : Standing) (r : ℕ) (cause : BadHead) (rest :
       }) (λ none. let never : None ≡ Some e = sym (ap end_for_some none) ∙ end in absurd (cc)))
 
   pub bad_part : (left coming : List ℕ) (k : ℕ)
-      → AnswersPart config (exchange_on from left coming (answering from.store from.store [] (take k (sends
-      (reply config from.store.accounts (Bad cause) r true))) r []))
+      → AnswersPart config (exchange_on from left coming (answering from.placed from.placed [] (take k (sends
+      (reply config from.placed.state (Bad cause) r true))) r []))
   unfolding text
   bad_part left coming k = record {
     turn = whole (Bad cause);

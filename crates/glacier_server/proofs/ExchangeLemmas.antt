@@ -19,11 +19,11 @@ use Rattle.glacier_server.specs.Transfer.{TakenAt, TakesBehind, NoneComing, curr
 use Rattle.glacier_server.specs.Does.{Failing, nothing, receiving}
 use Rattle.glacier_server.proofs.SessionLemmas.{joined, all_more, same_wait, held_then}
 use Rattle.glacier_server.proofs.TransferLemmas.{then, moved, fails_as}
-use Rattle.glacier_store.specs.declared.store.Store.{Store}
+use Rattle.glacier_server.specs.Placed.{Placed}
 
 -- no head is there yet
 need : (config : Config) (from : Standing) (left coming got : List ℕ) (waits : List Wait) → HasNoOpening (from.unread ++ got)
-    → Idles config (exchange_on from left coming (taking from.store got waits))
+    → Idles config (exchange_on from left coming (taking from.placed got waits))
 need config from left coming got waits none =
     record { none = none_waits (from.unread ++ got) none; same = refl; tells = refl; read = λ _ h more x. none _ _ x.opening }
 
@@ -33,101 +33,101 @@ at_the_end : (config : Config) (x : Exchange) (input : List ℕ) → x.input ≡
 at_the_end config x [] is idle none = inr (idle, sym (ap end_of_rest is), none)
 at_the_end config x (b ∷ input) is idle none = (idle, sym (ap end_of_rest is), none)
 
-module _ (config : Config) (n : ℕ) {a b : Told} {unread now : List ℕ} (store : Store) {failing : Failing}
+module _ (config : Config) (n : ℕ) {a b : Told} {unread now : List ℕ} (placed : Placed) {failing : Failing}
     (found : TakesBehind a b unread now HasNoOpening failing) where
   -- at each wait no head was there
-  idle : HeldWaiting (wait_of (current a.connections)) (taking store found.got found.takes.waits) (λ till. Idles config
-      (exchange_on (standing n unread store) [] [] till))
+  idle : HeldWaiting (wait_of (current a.connections)) (taking placed found.got found.takes.waits) (λ till. Idles config
+      (exchange_on (standing n unread placed) [] [] till))
   idle = all_more _ _ found.takes.waits at found.takes.each
     where
       at : (w : Wait) → TakenAt (wait_of (current a.connections)) found.got (λ l. HasNoOpening (unread ++ l)) w
-          → HeldAt (wait_of (current a.connections)) (taking store found.got found.takes.waits) (λ till. Idles config
-          (exchange_on (standing n unread store) [] [] till)) w
+          → HeldAt (wait_of (current a.connections)) (taking placed found.got found.takes.waits) (λ till. Idles config
+          (exchange_on (standing n unread placed) [] [] till)) w
       at w x = record {
-        till = taking store x.till [];
+        till = taking placed x.till [];
         front = record { before = refl; taken = (x.later, x.cut); acts = ([], refl); readings = ([], refl) };
         at = x.at ∙ same_wait _ _ _ _ refl (omega arith);
-        holds = need config (standing n unread store) [] [] x.till [] x.holds;
+        holds = need config (standing n unread placed) [] [] x.till [] x.holds;
       }
 
 -- the input ended, or a receive failed, behind the bytes that were taken for a head
-module _ {config : Config} {n : ℕ} {a b : Told} {unread now : List ℕ} {store : Store} where
+module _ {config : Config} {n : ℕ} {a b : Told} {unread now : List ℕ} {placed : Placed} where
   pub ends_behind : (e : End) → failing_of e ≡ nothing → TakesBehind a b unread now HasNoOpening nothing
-      → e ≡ end_for (end_of_rest now) → HasNoOpening now → NoneComing b → (to : Standing) → store ≡ to.store
-      → Exchanges config (standing n unread store) to a b (Some e)
+      → e ≡ end_for (end_of_rest now) → HasNoOpening now → NoneComing b → (to : Standing) → placed ≡ to.placed
+      → Exchanges config (standing n unread placed) to a b (Some e)
   ends_behind e of_none found is none ended to same =
-      let s = taking store found.got found.takes.waits in
-      let x = exchange_on (standing n unread store) to.unread (current b.connections).coming s in record {
+      let s = taking placed found.got found.takes.waits in
+      let x = exchange_on (standing n unread placed) to.unread (current b.connections).coming s in record {
         session = s;
         starts = refl;
         leaves = same;
-        transfer = fails_as s nothing (failing_of e) (sym of_none) (found.takes.transfer store);
+        transfer = fails_as s nothing (failing_of e) (sym of_none) (found.takes.transfer placed);
         exchange = subst (λ (f : End). IsExchange config x (Some f)) (sym is)
-            (at_the_end config x now (sym found.behind) (need config (standing n unread store) to.unread
+            (at_the_end config x now (sym found.behind) (need config (standing n unread placed) to.unread
             (current b.connections).coming found.got found.takes.waits
             (subst HasNoOpening found.behind none)) ended);
-        idle = idle config n store found;
+        idle = idle config n placed found;
       }
 
   pub fails_behind : TakesBehind a b unread now HasNoOpening receiving → HasNoOpening now → (to : Standing)
-      → store ≡ to.store → Exchanges config (standing n unread store) to a b (Some ReadFault)
+      → placed ≡ to.placed → Exchanges config (standing n unread placed) to a b (Some ReadFault)
   fails_behind found none to same = record {
-    session = taking store found.got found.takes.waits;
+    session = taking placed found.got found.takes.waits;
     starts = refl;
     leaves = same;
-    transfer = found.takes.transfer store;
-    exchange = need config (standing n unread store) to.unread (current b.connections).coming found.got found.takes.waits
+    transfer = found.takes.transfer placed;
+    exchange = need config (standing n unread placed) to.unread (current b.connections).coming found.got found.takes.waits
         (subst HasNoOpening found.behind none);
-    idle = idle config n store found;
+    idle = idle config n placed found;
   }
 
 -- an exchange of what is unread then
-module _ {n : ℕ} {a b : Told} {unread now : List ℕ} {store : Store}
+module _ {n : ℕ} {a b : Told} {unread now : List ℕ} {placed : Placed}
     (found : TakesBehind a b unread now HasNoOpening nothing) where
   -- it is one of what was unread before
-  regroup : (left coming : List ℕ) (s : Session) → s.before ≡ store
-      → exchange_on (standing n now store) left coming s ≡ exchange_on (standing n unread store) left coming (joined
-      (taking store found.got found.takes.waits) s)
+  regroup : (left coming : List ℕ) (s : Session) → s.before ≡ placed
+      → exchange_on (standing n now placed) left coming s ≡ exchange_on (standing n unread placed) left coming (joined
+      (taking placed found.got found.takes.waits) s)
   regroup left coming s starts =
-      ap (λ (l : List ℕ). record (exchange_on (standing n now store) left coming s) { input = l }) (ap (λ
+      ap (λ (l : List ℕ). record (exchange_on (standing n now placed) left coming s) { input = l }) (ap (λ
       (l : List ℕ). l ++ s.taken) found.behind ∙ append_assoc unread found.got s.taken)
-      ∙ ap (λ (k : Store). record (exchange_on (standing n unread store) left coming (joined
-      (taking store found.got found.takes.waits) s)) { before = k.accounts }) starts
+      ∙ ap (λ (k : Placed). record (exchange_on (standing n unread placed) left coming (joined
+      (taking placed found.got found.takes.waits) s)) { before = k.state }) starts
 
-  idles_behind : (config : Config) (s : Session) → s.before ≡ store
+  idles_behind : (config : Config) (s : Session) → s.before ≡ placed
       → HeldWaiting (wait_of (current b.connections)) s (λ till. Idles config (exchange_on
-      (standing n now store) [] [] till))
-      → HeldWaiting (wait_of (current a.connections)) (joined (taking store found.got found.takes.waits) s)
-      (λ till. Idles config (exchange_on (standing n unread store) [] [] till))
+      (standing n now placed) [] [] till))
+      → HeldWaiting (wait_of (current a.connections)) (joined (taking placed found.got found.takes.waits) s)
+      (λ till. Idles config (exchange_on (standing n unread placed) [] [] till))
   idles_behind config s starts held =
-      let one = taking store found.got found.takes.waits in
+      let one = taking placed found.got found.takes.waits in
       held_then (wait_of (current a.connections)) one s (λ till. Idles config (exchange_on
-      (standing n unread store) [] [] till)) (λ till. Idles config (exchange_on (standing n now store) [] [] till))
-      (idle config n store found)
-      (subst (λ (w : Wait). HeldWaiting w s (λ till. Idles config (exchange_on (standing n now store) [] [] till)))
-      (moved one (found.takes.transfer store)) held)
+      (standing n unread placed) [] [] till)) (λ till. Idles config (exchange_on (standing n now placed) [] [] till))
+      (idle config n placed found)
+      (subst (λ (w : Wait). HeldWaiting w s (λ till. Idles config (exchange_on (standing n now placed) [] [] till)))
+      (moved one (found.takes.transfer placed)) held)
       (λ u front holds. subst (Idles config) (regroup [] [] u (front.before ∙ starts)) holds)
 
   pub exchanges_behind : {config : Config} {c : Told} {to : Standing} {end : Option End}
-      → Exchanges config (standing n now store) to b c end → Exchanges config (standing n unread store) to a c end
+      → Exchanges config (standing n now placed) to b c end → Exchanges config (standing n unread placed) to a c end
   exchanges_behind {config = config} {c = c} {to = to} {end = end} x = record {
-    session = joined (taking store found.got found.takes.waits) x.session;
+    session = joined (taking placed found.got found.takes.waits) x.session;
     starts = refl;
     leaves = x.leaves;
-    transfer = then (taking store found.got found.takes.waits) x.session x.starts
-        (found.takes.transfer store) x.transfer;
+    transfer = then (taking placed found.got found.takes.waits) x.session x.starts
+        (found.takes.transfer placed) x.transfer;
     exchange = subst (λ (y : Exchange). IsExchange config y end) (regroup to.unread
         (current c.connections).coming x.session x.starts) x.exchange;
     idle = idles_behind config x.session x.starts x.idle;
   }
 
   pub breaks_behind : {config : Config} {c : Told} {fault : ServeFault}
-      → BreaksOff config (standing n now store) b c fault → BreaksOff config (standing n unread store) a c fault
+      → BreaksOff config (standing n now placed) b c fault → BreaksOff config (standing n unread placed) a c fault
   breaks_behind {config = config} x = record {
-    session = joined (taking store found.got found.takes.waits) x.session;
+    session = joined (taking placed found.got found.takes.waits) x.session;
     starts = refl;
-    transfer = then (taking store found.got found.takes.waits) x.session x.starts
-        (found.takes.transfer store) x.transfer;
+    transfer = then (taking placed found.got found.takes.waits) x.session x.starts
+        (found.takes.transfer placed) x.transfer;
     part = record {
       turn = x.part.turn;
       reading = x.part.reading;

@@ -15,11 +15,11 @@ use Rattle.glacier_server.specs.Serving.{ServedAll, BreaksLast, ServedTill, Serv
 use Rattle.glacier_server.specs.Session.{Session}
 use Rattle.glacier_server.proofs.AllSentLemmas.{all_sent}
 use Rattle.glacier_server.proofs.DoesLemmas.{stops_anywhere}
-use Rattle.glacier_store.specs.Stands.{Kept}
-use Rattle.glacier_store.specs.declared.store.Store.{Store}
+use Rattle.glacier_server.specs.Placed.{IsKept}
+use Rattle.glacier_server.specs.Placed.{Placed}
 
 -- all that is to be done is a first part of it
-whole : (config : Config) (s : Session) → IsWholeOut config s.taken s.readings s.before.accounts s.acts
+whole : (config : Config) (s : Session) → IsWholeOut config s.taken s.readings s.before.state s.acts
     → IsPartOfOut config s
 whole config s x = (s.acts, [], x.is_out, sym (append-nil s.acts))
 
@@ -33,26 +33,26 @@ part config s coming Bound x = whole config s (all_sent config s coming Bound x 
 part config s coming ReadFault x = whole config s (all_sent config s coming ReadFault x (λ never. absurd (cc)))
 part config s coming SendFault x = x.0
 
-by_machine : (config : Config) (came : List Connection) (sessions : List Session) (store after : Store)
-    (fault : ServeFault) → ServedTill config fault came sessions store after
-    → ((after : Store) × ServedAll config came sessions store after)
-    ⊎ ((fault : ServeFault) × BreaksLast config came sessions store fault)
-by_machine config came sessions store after Disk x = inr (Disk, x)
-by_machine config came sessions store after Memory x = inr (Memory, x)
-by_machine config came sessions store after (JournalEnd end) x = inr (JournalEnd end, x)
-by_machine config came sessions store after Accept x = inl (after, x)
+by_machine : (config : Config) (came : List Connection) (sessions : List Session) (placed after : Placed)
+    (fault : ServeFault) → ServedTill config fault came sessions placed after
+    → ((after : Placed) × ServedAll config came sessions placed after)
+    ⊎ ((fault : ServeFault) × BreaksLast config came sessions placed fault)
+by_machine config came sessions placed after Disk x = inr (Disk, x)
+by_machine config came sessions placed after Memory x = inr (Memory, x)
+by_machine config came sessions placed after (JournalEnd end) x = inr (JournalEnd end, x)
+by_machine config came sessions placed after Accept x = inl (after, x)
 
 -- a session from a store that was kept
-at_start : (old : Told) (store : Store) (s : Session) → s.before ≡ store → Kept old store → Kept old s.before
-at_start old store s starts kept = subst (λ (k : Store). Kept old k) (sym starts) kept
+at_start : (old : Told) (placed : Placed) (s : Session) → s.before ≡ placed → IsKept old placed → IsKept old s.before
+at_start old placed s starts kept = subst (λ (k : Placed). IsKept old k) (sym starts) kept
 
-did : (old new : Told) (store : Store) (s : Session) → s.before ≡ store → StopsAmid old new s.before.accounts s.acts
-    → StopsAmid old new store.accounts s.acts
-did old new store s starts amid = subst (λ (k : Store). StopsAmid old new k.accounts s.acts) starts amid
+did : (old new : Told) (placed : Placed) (s : Session) → s.before ≡ placed → StopsAmid old new s.before.state s.acts
+    → StopsAmid old new placed.state s.acts
+did old new placed s starts amid = subst (λ (k : Placed). StopsAmid old new k.state s.acts) starts amid
 
-module _ {config : Config} {old new : Told} {store : Store} (law : Lawful old) (kept : Kept old store) where
-  pub served_headline : {after : Store} {end : End} → ServedLast config old new store after end
-      → HeadlineLast config old new store
+module _ {config : Config} {old new : Told} {placed : Placed} (law : Lawful old) (kept : IsKept old placed) where
+  pub served_headline : {after : Placed} {end : End} → ServedLast config old new placed after end
+      → HeadlineLast config old new placed
   served_headline {end = end} x = record {
     session = x.session;
     starts = x.starts;
@@ -60,11 +60,11 @@ module _ {config : Config} {old new : Told} {store : Store} (law : Lawful old) (
     sent = x.transfer.sent_now;
     read = x.transfer.read;
     machine = part config x.session _ end x.served;
-    stop = stops_anywhere law kept (did old new store x.session x.starts
-        (x.transfer.does.stops (at_start old store x.session x.starts kept)));
+    stop = stops_anywhere law kept (did old new placed x.session x.starts
+        (x.transfer.does.stops (at_start old placed x.session x.starts kept)));
   }
 
-  pub part_headline : {fault : ServeFault} → PartLast config old new store fault → HeadlineLast config old new store
+  pub part_headline : {fault : ServeFault} → PartLast config old new placed fault → HeadlineLast config old new placed
   part_headline x = record {
     session = x.session;
     starts = x.starts;
@@ -72,12 +72,12 @@ module _ {config : Config} {old new : Told} {store : Store} (law : Lawful old) (
     sent = x.transfer.sent_now;
     read = x.transfer.read;
     machine = x.part.0;
-    stop = stops_anywhere law kept (did old new store x.session x.starts
-        (x.transfer.does.stops (at_start old store x.session x.starts kept)));
+    stop = stops_anywhere law kept (did old new placed x.session x.starts
+        (x.transfer.does.stops (at_start old placed x.session x.starts kept)));
   }
 
-  pub serves_headline : {after : Store} {count : ℕ} → Serves config old new store after count
-      → Headline config old new store
+  pub serves_headline : {after : Placed} {count : ℕ} → Serves config old new placed after count
+      → Headline config old new placed
   serves_headline {after = after} x = record {
     came = x.came;
     sessions = x.sessions;
@@ -88,14 +88,14 @@ module _ {config : Config} {old new : Told} {store : Store} (law : Lawful old) (
     amid = x.does.stops kept;
   }
 
-  pub breaks_headline : {most : ℕ} {fault : ServeFault} → Breaks config old new store most fault
-      → Headline config old new store
+  pub breaks_headline : {most : ℕ} {fault : ServeFault} → Breaks config old new placed most fault
+      → Headline config old new placed
   breaks_headline {fault = fault} x = record {
     came = x.came;
     sessions = x.sessions;
     behind = x.comes.behind;
     read = x.comes.read;
-    machine = by_machine config x.came x.sessions store x.after fault x.till;
+    machine = by_machine config x.came x.sessions placed x.after fault x.till;
     stop = stops_anywhere law kept (x.does.stops kept);
     amid = x.does.stops kept;
   }

@@ -1,31 +1,38 @@
 -- A store that is kept stands on the disk, and stays kept where no image changes.
 use Rattle.std.proofs.Common.{List, [], ◌++◌, Ok, Err, refl}
 use Rattle.glacier_disk.specs.Calls.{Rests}
+use Rattle.glacier_disk.specs.Image.{Image}
 use Rattle.glacier_disk.specs.Moments.{started}
 use Rattle.glacier_disk.specs.Told.{Told, Lawful}
+use Rattle.glacier_replay.specs.Changes.{State}
+use Rattle.glacier_replay.specs.Standing.{Stands}
 use Rattle.glacier_vault.specs.Accounts.{AccountEvent}
 use Rattle.glacier_server.specs.declared.end.ServeFault.TheVariants.{Memory}
 use Rattle.glacier_server.specs.Events.{KeepsEvents, KeepsFirst}
+use Rattle.glacier_server.specs.Placed.{IsKept, Placed}
 use Rattle.glacier_server.proofs.RoomLemmas.{grew_none}
-use Rattle.glacier_store.specs.Stands.{AllStand, Kept}
+use Rattle.glacier_store.specs.Kept.{Kept}
 use Rattle.glacier_store.specs.declared.store.Store.{Store}
-use Rattle.glacier_store.proofs.StandsLemmas.{kept_stands}
+use Rattle.glacier_store.proofs.KeptLemmas.{held_rests, kept_stands}
 
-pub stands : (disk : Told) (store : Store) → Kept disk store → AllStand disk store.accounts
-stands disk store kept = kept_stands disk store.journal store.accounts kept
+pub stands : (disk : Told) (placed : Placed) → IsKept disk placed → (i : Image) → disk.leaves i → Stands i placed.state
+stands disk placed kept = kept_stands disk placed.store.journal placed.store.area.blobs placed.state kept.held
 
-pub still_kept : (old new : Told) (store : Store) → Rests old new → Kept old store → Kept new store
-still_kept old new store rests kept = record {
-  payloads = kept.payloads;
-  listed = λ i now. kept.listed i (rests.crash i now);
-  made = kept.made;
+pub still_kept : (old new : Told) (placed : Placed) → Rests old new → IsKept old placed → IsKept new placed
+still_kept old new placed rests kept = record {
+  accounts = kept.accounts;
+  held = held_rests old new placed.store.journal placed.store.area.blobs placed.state rests.crash kept.held;
+  rest = kept.rest;
 }
 
 -- where a crash leaves the state before, it leaves the one after no event
-pub none_first : {disk : Told} → Lawful disk → (store : Store) (events : List AccountEvent) → Kept disk store
-    → KeepsFirst disk disk store.accounts events
-none_first {disk = disk} law store events kept =
-    started _ _ (λ i left. record { count = 0; stands = stands disk store kept i (law.only_now i left) })
+pub none_first : {disk : Told} → Lawful disk → (store : Store) (state : State) (events : List AccountEvent)
+    → Kept disk store state → KeepsFirst disk disk state events
+none_first {disk = disk} law store state events kept =
+    started _ _ (λ i left. record {
+      count = 0;
+      stands = kept_stands disk store.journal store.area.blobs state kept.held i (law.only_now i left);
+    })
 
 -- no call of the store
 pub no_events : {T : Type 0} {disk : Told} → Lawful disk → (store : Store) (x : T)
@@ -33,9 +40,9 @@ pub no_events : {T : Type 0} {disk : Told} → Lawful disk → (store : Store) (
 no_events law store x = record {
   accounts = refl;
   grew = grew_none store.journal.length;
-  any_moment = none_first law store [];
-  kept = λ kept. kept;
-  memory = λ kept never. absurd (cc);
+  any_moment = λ state. none_first law store state [];
+  kept = λ state kept. kept;
+  memory = λ state kept never. absurd (cc);
   end = λ length never. absurd (cc);
 }
 
@@ -45,8 +52,8 @@ pub no_memory : {T : Type 0} {disk : Told} → Lawful disk → (store : Store) (
 no_memory law store passed done = record {
   accounts = tt;
   grew = tt;
-  any_moment = none_first law store (passed ++ done);
-  kept = λ kept. tt;
-  memory = λ kept same. none_first law store passed kept;
+  any_moment = λ state. none_first law store state (passed ++ done);
+  kept = λ state kept. tt;
+  memory = λ state kept same. none_first law store state passed kept;
   end = λ length never. absurd (cc);
 }

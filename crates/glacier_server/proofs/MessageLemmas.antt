@@ -35,25 +35,25 @@ use Rattle.glacier_server.proofs.ExtentLemmas.{Extends}
 use Rattle.glacier_server.proofs.RefuseLemmas.{text_is}
 use Rattle.glacier_server.proofs.SessionLemmas.{all_more, same_wait}
 use Rattle.glacier_server.proofs.TransferLemmas.{then, acts_then, says, fails_as}
-use Rattle.glacier_store.specs.declared.store.Store.{Store}
+use Rattle.glacier_server.specs.Placed.{Placed}
 
 -- a good head, for which a reading was taken, and then bytes of its body
 module _ (config : Config) (from : Standing) (headers : List HeaderSpan) (spans : HeadSpans) (used left : ℕ)
     (is : IsStep from.unread headers (step.Head spans))
-    (extends : Extends from.unread spans used left) {a b c : Told} {r : ℕ} (read : (store : Store)
-    → Transfer a b (reading store r) nothing) {missing : ℕ} where
+    (extends : Extends from.unread spans used left) {a b c : Told} {r : ℕ} (read : (placed : Placed)
+    → Transfer a b (reading placed r) nothing) {missing : ℕ} where
   module _ {failing : Failing} (takes : TakesOf b c left missing failing) where
-    took : Transfer a c (answering from.store from.store takes.got [] r takes.takes.waits) failing
-    took = then (reading from.store r) _ refl (read from.store) (takes.takes.transfer from.store)
+    took : Transfer a c (answering from.placed from.placed takes.got [] r takes.takes.waits) failing
+    took = then (reading from.placed r) _ refl (read from.placed) (takes.takes.transfer from.placed)
 
     -- at each wait some of the body was missing
-    idle_at : (after : Store) (acts : List Act) (w : Wait)
+    idle_at : (after : Placed) (acts : List Act) (w : Wait)
         → TakenAt (wait_of (current b.connections)) takes.got (λ l. length l < left) w
-        → HeldAt (wait_of (current a.connections)) (answering from.store after takes.got acts r takes.takes.waits)
+        → HeldAt (wait_of (current a.connections)) (answering from.placed after takes.got acts r takes.takes.waits)
         (λ till. Idles config (exchange_on from [] [] till)) w
     idle_at after acts w x =
-        let one = read from.store in record {
-          till = answering from.store from.store x.till [] r [];
+        let one = read from.placed in record {
+          till = answering from.placed from.placed x.till [] r [];
           front = record { before = refl; taken = (x.later, x.cut); acts = (acts, refl); readings = ([], refl) };
           at = x.at ∙ same_wait _ _ _ _ (omega (
             arith,
@@ -64,29 +64,29 @@ module _ (config : Config) (from : Standing) (headers : List HeaderSpan) (spans 
               (arith, x.holds)) (omega (arith, x.holds)) [] [] [];
         }
 
-    idle : (after : Store) (acts : List Act) → HeldWaiting (wait_of (current a.connections))
-        (answering from.store after takes.got acts r takes.takes.waits) (λ till. Idles config (exchange_on from [] [] till))
+    idle : (after : Placed) (acts : List Act) → HeldWaiting (wait_of (current a.connections))
+        (answering from.placed after takes.got acts r takes.takes.waits) (λ till. Idles config (exchange_on from [] [] till))
     idle after acts = all_more _ _ takes.takes.waits (idle_at after acts) takes.takes.each
 
   -- some are missing, as a receive failed
-  pub body_failed : TakesOf b c left missing receiving → 0 < missing → (to : Standing) → from.store ≡ to.store
+  pub body_failed : TakesOf b c left missing receiving → 0 < missing → (to : Standing) → from.placed ≡ to.placed
       → Exchanges config from to a c (Some ReadFault)
   body_failed takes some to same = record {
-    session = answering from.store from.store takes.got [] r takes.takes.waits;
+    session = answering from.placed from.placed takes.got [] r takes.takes.waits;
     starts = refl;
     leaves = same;
     transfer = took takes;
     exchange = idles config from headers spans used left r is extends takes.got missing takes.sum some to.unread
         (current c.connections).coming takes.takes.waits;
-    idle = idle takes from.store [];
+    idle = idle takes from.placed [];
   }
 
   module _ (takes : TakesOf b c left missing nothing) where
     -- some are missing, as the input ended
     pub body_cut : 0 < missing → NoneComing c → (count : ℕ) → count ≡ length from.unread → (to : Standing)
-        → from.store ≡ to.store → Exchanges config from to a c (Some (Cut (count + (left - missing))))
+        → from.placed ≡ to.placed → Exchanges config from to a c (Some (Cut (count + (left - missing))))
     body_cut some none count size to same = record {
-      session = answering from.store from.store takes.got [] r takes.takes.waits;
+      session = answering from.placed from.placed takes.got [] r takes.takes.waits;
       starts = refl;
       leaves = same;
       transfer = took takes;
@@ -97,7 +97,7 @@ module _ (config : Config) (from : Standing) (headers : List HeaderSpan) (spans 
             (cut_is config from headers spans used left r is extends takes.got missing takes.sum),
         none,
       );
-      idle = idle takes from.store [];
+      idle = idle takes from.placed [];
     }
 
     -- none are missing
@@ -127,80 +127,80 @@ module _ (config : Config) (from : Standing) (headers : List HeaderSpan) (spans 
         text : List Act
         text = said config from headers spans used left r is extends takes.got end
 
-        same_text : (close : Bool) → close ≡ is_some end → done config from.store.accounts message r close ≡ text
+        same_text : (close : Bool) → close ≡ is_some end → done config from.placed.state message r close ≡ text
         unfolding message text
         same_text close closes = said_is config from headers spans used left r is extends takes.got end close closes
 
         pub reply_unmade : {T : Type 0} {d : Told} (fault : ServeFault) → end ≡ end_of_good from.count spans.close
             → Lawful d → ByDisk c d → HasBroken fault c d
-            → AtFront from.unread spans kept (λ m. KeepsOutcome {T = T} c d from.store
-            (one config from.store.accounts m r) (Err fault))
+            → AtFront from.unread spans kept (λ m. KeepsOutcome {T = T} c d from.placed
+            (one config from.placed.state m r) (Err fault))
             → BreaksOff config from a d fault
         unfolding message text
         reply_unmade {T = T} {d = d} fault end_is law alone broken each =
             let m : Message = message in
             let close : Bool = is_some end in
-            let broke = broke config from.store m r close law alone {T = T} fault broken (at_message kept keeps (λ m.
-            KeepsOutcome {T = T} c d from.store
-            (one config from.store.accounts m r) (Err fault)) each) in
+            let broke = broke config from.placed m r close law alone {T = T} fault broken (at_message kept keeps (λ m.
+            KeepsOutcome {T = T} c d from.placed
+            (one config from.placed.state m r) (Err fault)) each) in
             let k : ℕ = broke.0 in
-            let after : Store = broke.1 in record {
-              session = answering from.store after takes.got (take k text) r takes.takes.waits;
+            let after : Placed = broke.1 in record {
+              session = answering from.placed after takes.got (take k text) r takes.takes.waits;
               starts = refl;
               transfer =
-                  acts_then (answering from.store from.store takes.got [] r takes.takes.waits) after (take k text)
+                  acts_then (answering from.placed from.placed takes.got [] r takes.takes.waits) after (take k text)
                   (took takes)
-                  (says (acting from.store after (take k (done config from.store.accounts m r close))) (take k text)
+                  (says (acting from.placed after (take k (done config from.placed.state m r close))) (take k text)
                   (ap (λ (l : List Act). take k l) (same_text close refl)) broke.2);
               part = answered_part config from headers spans used left r is extends takes.got end k whole end_is [] [] after takes.takes.waits;
-              broken = subst (λ (l : List Act). BrokenFor config from.store (Whole m) r l fault) (ap (λ (l : List Act). take k l)
+              broken = subst (λ (l : List Act). BrokenFor config from.placed (Whole m) r l fault) (ap (λ (l : List Act). take k l)
                   (same_text close refl)) broke.3;
               idle = idle takes after (take k text);
             }
 
         module _ (end_is : end ≡ end_of_good from.count spans.close) (of_none : failing_at end ≡ nothing)
             (close : Bool) (closes : close ≡ is_some end) {d : Told} (law : Lawful d) (alone : ByDisk c d)
-            (reply_is : Reply × Store) (answers : AtFront from.unread spans kept (λ m. reply_is.0 ≡
-            (one config from.store.accounts m r).reply))
-            (each : AtFront from.unread spans kept (λ m. KeepsOutcome c d from.store
-            (one config from.store.accounts m r) (Ok reply_is))) where
-          printed : text_of_reply reply_is.0 r close ≡ reply config from.store.accounts message r close
-          printed = text_is config from.store.accounts message r close reply_is.0 (at_message kept keeps (λ m. reply_is.0 ≡
-              (one config from.store.accounts m r).reply) answers)
+            (reply_is : Reply × Placed) (answers : AtFront from.unread spans kept (λ m. reply_is.0 ≡
+            (one config from.placed.state m r).reply))
+            (each : AtFront from.unread spans kept (λ m. KeepsOutcome c d from.placed
+            (one config from.placed.state m r) (Ok reply_is))) where
+          printed : text_of_reply reply_is.0 r close ≡ reply config from.placed.state message r close
+          printed = text_is config from.placed.state message r close reply_is.0 (at_message kept keeps (λ m. reply_is.0 ≡
+              (one config from.placed.state m r).reply) answers)
 
-          kept_events : KeepsOutcome c d from.store
-              (one config from.store.accounts message r) (Ok reply_is)
-          kept_events = at_message kept keeps (λ m. KeepsOutcome c d from.store
-              (one config from.store.accounts m r) (Ok reply_is)) each
+          kept_events : KeepsOutcome c d from.placed
+              (one config from.placed.state message r) (Ok reply_is)
+          kept_events = at_message kept keeps (λ m. KeepsOutcome c d from.placed
+              (one config from.placed.state m r) (Ok reply_is)) each
 
-          stored : reply_is.1.accounts ≡ after config from.store.accounts message r
+          stored : reply_is.1.state ≡ after config from.placed.state message r
           unfolding after happened
-          stored = kept_events.accounts
+          stored = kept_events.state
 
-          commits : Transfer c d (acting from.store reply_is.1 (acts_of (happened config from.store.accounts message r))) nothing
-          commits = committed config from.store message r close law alone reply_is kept_events
+          commits : Transfer c d (acting from.placed reply_is.1 (acts_of (happened config from.placed.state message r))) nothing
+          commits = committed config from.placed message r close law alone reply_is kept_events
 
           -- it was sent
           pub reply_sent : {e : Told} → SentAll d e (text_of_reply reply_is.0 r close) → (to : Standing)
-              → reply_is.1 ≡ to.store
+              → reply_is.1 ≡ to.placed
               → to.unread ≡ drop used from.unread → Exchanges config from to a e end
           unfolding message text
           reply_sent {e = e} sent to leaves left_is =
               let new = reply_is.1 in
-              let x = answering from.store new takes.got text r takes.takes.waits in record {
+              let x = answering from.placed new takes.got text r takes.takes.waits in record {
                 session = x;
                 starts = refl;
                 leaves = leaves;
                 transfer =
                     fails_as x nothing (failing_at end) (sym of_none)
-                    (acts_then (answering from.store from.store takes.got [] r takes.takes.waits) new text (took takes)
-                    (says (acting from.store new (done config from.store.accounts message r close)) text
+                    (acts_then (answering from.placed from.placed takes.got [] r takes.takes.waits) new text (took takes)
+                    (says (acting from.placed new (done config from.placed.state message r close)) text
                     (same_text close closes)
-                    (done_all config from.store message r close new commits
+                    (done_all config from.placed message r close new commits
                     (text_of_reply reply_is.0 r close) printed sent)));
                 exchange =
                     subst (λ (l : List ℕ). IsExchange config (exchange_on from l (current e.connections).coming
-                    (answering from.store new takes.got text r takes.takes.waits)) end) (sym left_is)
+                    (answering from.placed new takes.got text r takes.takes.waits)) end) (sym left_is)
                     (answered config from headers spans used left r is extends takes.got end whole end_is new stored
                     (current e.connections).coming takes.takes.waits);
                 idle = idle takes new text;
@@ -208,19 +208,19 @@ module _ (config : Config) (from : Standing) (headers : List HeaderSpan) (spans 
 
           -- a first part of it was sent
           pub reply_unsent : {e : Told} → SentPart d e (text_of_reply reply_is.0 r close) → (to : Standing)
-              → reply_is.1 ≡ to.store → Exchanges config from to a e (Some SendFault)
+              → reply_is.1 ≡ to.placed → Exchanges config from to a e (Some SendFault)
           unfolding message text
           reply_unsent {e = e} sent to leaves =
               let new = reply_is.1 in
-              let part = done_part config from.store message r close new commits
+              let part = done_part config from.placed message r close new commits
               (text_of_reply reply_is.0 r close) printed sent in record {
-                session = answering from.store new takes.got (take part.0 text) r takes.takes.waits;
+                session = answering from.placed new takes.got (take part.0 text) r takes.takes.waits;
                 starts = refl;
                 leaves = leaves;
                 transfer =
-                    acts_then (answering from.store from.store takes.got [] r takes.takes.waits) new
+                    acts_then (answering from.placed from.placed takes.got [] r takes.takes.waits) new
                     (take part.0 text) (took takes)
-                    (says (acting from.store new (take part.0 (done config from.store.accounts message r close)))
+                    (says (acting from.placed new (take part.0 (done config from.placed.state message r close)))
                     (take part.0 text) (ap (λ (l : List Act). take part.0 l) (same_text close closes)) part.1);
                 exchange = answered_part config from headers spans used left r is extends takes.got end part.0 whole end_is to.unread (current e.connections).coming new takes.takes.waits;
                 idle = idle takes new (take part.0 text);

@@ -21,53 +21,53 @@ use Rattle.glacier_server.specs.Transfer.{Transfer, SentAll, SentPart, current}
 use Rattle.glacier_server.specs.Does.{nothing}
 use Rattle.glacier_server.proofs.EndLemmas.{answering, bad_answered, bad_part}
 use Rattle.glacier_server.proofs.TransferLemmas.{acts_then, says, fails_as, breaks_off}
-use Rattle.glacier_vault.specs.Accounts.{Accounts}
-use Rattle.glacier_store.specs.declared.store.Store.{Store}
+use Rattle.glacier_replay.specs.Changes.{State}
+use Rattle.glacier_server.specs.Placed.{Placed}
 
 -- the text of a message's reply, by what the machine answers
-pub text_is : (config : Config) (state : Accounts) (m : Message) (r : ℕ) (close : Bool) (answer : Reply)
+pub text_is : (config : Config) (state : State) (m : Message) (r : ℕ) (close : Bool) (answer : Reply)
     → answer ≡ (one config state m r).reply → text_of_reply answer r close ≡ reply config state m r close
 unfolding reply
 text_is config state m r close answer is = ap (λ (a : Reply). text_of_reply a r close) is
 
 -- a bad head, for which a reading was taken
 still : (config : Config) (from : Standing) (cause : BadHead) (r : ℕ)
-    → after config from.store.accounts (Bad cause) r ≡ from.store.accounts
+    → after config from.placed.state (Bad cause) r ≡ from.placed.state
 unfolding after happened
 still config from cause r = refl
 
-module _ (config : Config) {r : ℕ} {cause : BadHead} {a b : Told} (read : (store : Store)
-    → Transfer a b (reading store r) nothing) (from : Standing) (count : ℕ)
+module _ (config : Config) {r : ℕ} {cause : BadHead} {a b : Told} (read : (placed : Placed)
+    → Transfer a b (reading placed r) nothing) (from : Standing) (count : ℕ)
     (stands : BadStands from count cause) where
   pub refused_unmade : BreaksOff config from a b Memory
   refused_unmade = record {
-    session = reading from.store r;
+    session = reading from.placed r;
     starts = refl;
-    transfer = breaks_off (reading from.store r) (read from.store);
+    transfer = breaks_off (reading from.placed r) (read from.placed);
     part = bad_part config from r cause stands.1 stands.2 [] [] 0;
     broken = ((_, refl), (_, refl));
     idle = All-nil _;
   }
 
-  module _ (answer : Reply) (is : answer ≡ (one config from.store.accounts (Bad cause) r).reply) where
-    same : text_of_reply answer r true ≡ reply config from.store.accounts (Bad cause) r true
-    same = text_is config from.store.accounts (Bad cause) r true answer is
+  module _ (answer : Reply) (is : answer ≡ (one config from.placed.state (Bad cause) r).reply) where
+    same : text_of_reply answer r true ≡ reply config from.placed.state (Bad cause) r true
+    same = text_is config from.placed.state (Bad cause) r true answer is
 
     pub refused_sent : {c : Told} (e : End) → failing_of e ≡ nothing
         → end_for_some (last_end count (Bad cause)) ≡ Some e → SentAll b c (text_of_reply answer r true)
-        → (to : Standing) → from.store ≡ to.store → Exchanges config from to a c (Some e)
+        → (to : Standing) → from.placed ≡ to.placed → Exchanges config from to a c (Some e)
     refused_sent {c = c} e of_none end sent to leaves =
-        let x = answering from.store from.store [] (acts_of (reply config from.store.accounts
+        let x = answering from.placed from.placed [] (acts_of (reply config from.placed.state
         (Bad cause) r true)) r [] in record {
           session = x;
           starts = refl;
           leaves = leaves;
           transfer =
               fails_as x nothing (failing_of e) (sym of_none)
-              (acts_then (reading from.store r) from.store (acts_of (reply config from.store.accounts (Bad cause) r true))
-              (read from.store)
-              (says (acting from.store from.store (acts_of (text_of_reply answer r true))) (acts_of
-              (reply config from.store.accounts (Bad cause) r true)) (ap acts_of same) (sent from.store)));
+              (acts_then (reading from.placed r) from.placed (acts_of (reply config from.placed.state (Bad cause) r true))
+              (read from.placed)
+              (says (acting from.placed from.placed (acts_of (text_of_reply answer r true))) (acts_of
+              (reply config from.placed.state (Bad cause) r true)) (ap acts_of same) (sent from.placed)));
           exchange =
               bad_answered config from r cause stands.1 stands.2 to.unread (current c.connections).coming e
               (ap (λ (k : ℕ). end_for_some (last_end k (Bad cause))) stands.0 ∙ end) (still config from cause r);
@@ -75,17 +75,17 @@ module _ (config : Config) {r : ℕ} {cause : BadHead} {a b : Told} (read : (sto
         }
 
     pub refused_unsent : {c : Told} → SentPart b c (text_of_reply answer r true) → (to : Standing)
-        → from.store ≡ to.store → Exchanges config from to a c (Some SendFault)
+        → from.placed ≡ to.placed → Exchanges config from to a c (Some SendFault)
     refused_unsent {c = c} (k, sent) to leaves =
-        let part = take k (acts_of (reply config from.store.accounts (Bad cause) r true)) in record {
-          session = answering from.store from.store [] part r [];
+        let part = take k (acts_of (reply config from.placed.state (Bad cause) r true)) in record {
+          session = answering from.placed from.placed [] part r [];
           starts = refl;
           leaves = leaves;
           transfer =
-              acts_then (reading from.store r) from.store part (read from.store)
-              (says (acting from.store from.store (acts_of (take k (text_of_reply answer r true)))) part
+              acts_then (reading from.placed r) from.placed part (read from.placed)
+              (says (acting from.placed from.placed (acts_of (take k (text_of_reply answer r true)))) part
               (ap (λ (l : List ℕ). acts_of (take k l)) same
-              ∙ sym (take-map send k (reply config from.store.accounts (Bad cause) r true))) (sent from.store));
+              ∙ sym (take-map send k (reply config from.placed.state (Bad cause) r true))) (sent from.placed));
           exchange = bad_part config from r cause stands.1 stands.2 to.unread (current c.connections).coming k;
           idle = All-nil _;
         }

@@ -1,7 +1,7 @@
 -- The room that events take, one behind the other.
 use Rattle.std.proofs.Common.{◌≡◌, ℕ, ◌+◌, ◌<◌, ◌^◌, List, [], ◌∷◌, ◌++◌, refl, subst, arith}
 use Rattle.glacier_server.specs.Rooms.{AreRooms, GrewBy, HasNoRoom}
-use Rattle.glacier_store.specs.Events.{room_of}
+use Rattle.glacier_store.specs.Steps.{room_of}
 use Rattle.glacier_vault.specs.Accounts.{AccountEvent}
 
 pub are_rooms-append : (first more : List AccountEvent) (n k : ℕ) → AreRooms first n → AreRooms more k

@@ -6,7 +6,7 @@ use Rattle.glacier_disk.specs.Calls.{ReceiveCall, Receives, SendCall, NowCall, S
 use Rattle.glacier_disk.specs.Network.{Connection, Wait, OnLast, Takes as TakesStep, TakesNone, sent_on, on_last, wait_of}
 use Rattle.glacier_disk.specs.Told.{Told, Lawful, ByDisk}
 use Rattle.glacier_disk.proofs.Connections.{sent_same, sent_more}
-use Rattle.glacier_machine.specs.Outcomes.{after_all}
+use Rattle.glacier_replay.specs.Changes.{after_all}
 use Rattle.glacier_vault.specs.Accounts.{AccountEvent}
 use Rattle.glacier_server.specs.Acts.{sends as acts, keeps as acts_of, bytes_of}
 use Rattle.glacier_server.specs.Session.{Session, taking, reading, acting}
@@ -16,8 +16,8 @@ use Rattle.glacier_server.proofs.ActLemmas.{bytes_of-sends, bytes_of-keeps, even
 use Rattle.glacier_server.proofs.DoesLemmas.{does_quiet, does_send, does_keep}
 use Rattle.glacier_server.specs.Events.{KeepsFirst}
 use Rattle.glacier_server.specs.Rooms.{GrewBy}
-use Rattle.glacier_store.specs.Stands.{Kept}
-use Rattle.glacier_store.specs.declared.store.Store.{Store}
+use Rattle.glacier_server.specs.Placed.{IsKept}
+use Rattle.glacier_server.specs.Placed.{Placed}
 
 pub current-snoc : (before : List Connection) (c : Connection) → current (before ++ c ∷ []) ≡ c
 current-snoc [] c = refl
@@ -103,7 +103,7 @@ module _ {T E : Type 0} {old new : Told} {result : Result T E} (call : ReceiveCa
   takes_some {bytes = bytes} on =
       let e = ends on in record {
         waits = wait ∷ [];
-        transfer = λ store. transfer_by e (taking store bytes (wait ∷ [])) [] nothing (does_quiet store nothing
+        transfer = λ placed. transfer_by e (taking placed bytes (wait ∷ [])) [] nothing (does_quiet placed nothing
             call.disk.rests call.time (same_sent on on.steps.sent)) refl (call.readings ∙ sym (append-nil _))
             e.steps.taken e.steps.coming (e.steps.sent
             ∙ sym (append-nil _)) (waits_at e e.steps.waits) (e.steps.receives_failed, e.steps.sends_failed);
@@ -115,7 +115,7 @@ module _ {T E : Type 0} {old new : Told} {result : Result T E} (call : ReceiveCa
   takes_nothing on =
       let e = ends on in record {
         waits = wait ∷ [];
-        transfer = λ store. transfer_by e (taking store [] (wait ∷ [])) [] receiving (does_quiet store receiving
+        transfer = λ placed. transfer_by e (taking placed [] (wait ∷ [])) [] receiving (does_quiet placed receiving
             call.disk.rests call.time (same_sent on on.steps.sent)) refl (call.readings ∙ sym (append-nil _))
             (e.steps.taken ∙ sym (append-nil _)) (sym e.steps.coming) (e.steps.sent
             ∙ sym (append-nil _)) (waits_at e e.steps.waits) (e.steps.receives_failed, e.steps.sends_failed);
@@ -135,9 +135,9 @@ none_coming on = let e = ends on in ap (λ (c : Connection). c.coming) e.is ∙ 
 -- a send, all of whose bytes went out, or the first ones
 pub sent_all : {T E : Type 0} {old new : Told} {result : Result T E} (bytes : List ℕ) → SendCall old new result
     → SendsAll bytes old new → SentAll old new bytes
-sent_all bytes call all store =
+sent_all bytes call all placed =
     let e = ends all.step in
-    transfer_by e (acting store store (acts bytes)) bytes nothing (does_send store nothing bytes call.disk.rests all.time
+    transfer_by e (acting placed placed (acts bytes)) bytes nothing (does_send placed nothing bytes call.disk.rests all.time
     (more_sent all.step bytes all.step.steps.sent)) (bytes_of-sends bytes)
     (call.readings ∙ sym (append-nil _)) (e.steps.taken
     ∙ sym (append-nil _)) (sym e.steps.coming) e.steps.sent (e.steps.waits
@@ -147,10 +147,10 @@ pub sent_part : {T E : Type 0} {old new : Told} {result : Result T E} (bytes : L
     → (n : ℕ) → SendsFirst n bytes old new → SentPart old new bytes
 sent_part bytes call n first = (
   n,
-  λ store.
+  λ placed.
       let e = ends first.step in
-      transfer_by e (acting store store (acts (take n bytes))) (take n bytes) sending
-      (does_send store sending (take n bytes) call.disk.rests first.time (more_sent first.step (take n bytes) first.step.steps.sent)) (bytes_of-sends
+      transfer_by e (acting placed placed (acts (take n bytes))) (take n bytes) sending
+      (does_send placed sending (take n bytes) call.disk.rests first.time (more_sent first.step (take n bytes) first.step.steps.sent)) (bytes_of-sends
       (take n bytes))
       (call.readings ∙ sym (append-nil _)) (e.steps.taken
       ∙ sym (append-nil _)) (sym e.steps.coming) e.steps.sent (e.steps.waits
@@ -178,30 +178,30 @@ untouched {old = old} {new = new} s failing fails none silent idle does read sam
 }
 
 -- a reading
-pub reads : {old new : Told} (store : Store) (r : ℕ) → NowCall old new → new.readings ≡ old.readings ++ r ∷ []
-    → Transfer old new (reading store r) nothing
-reads store r call is = untouched (reading store r) nothing (λ c. (refl, refl)) refl refl refl
-    (does_quiet store nothing call.disk.rests call.time (ap sent_on call.connections)) is call.connections
+pub reads : {old new : Told} (placed : Placed) (r : ℕ) → NowCall old new → new.readings ≡ old.readings ++ r ∷ []
+    → Transfer old new (reading placed r) nothing
+reads placed r call is = untouched (reading placed r) nothing (λ c. (refl, refl)) refl refl refl
+    (does_quiet placed nothing call.disk.rests call.time (ap sent_on call.connections)) is call.connections
 
 -- calls of the store, by which events are kept, or the server breaks off behind some first ones of them
-module _ {old new : Told} (law : Lawful new) (alone : ByDisk old new) (store : Store) (events : List AccountEvent)
-    (leaves : Kept old store → KeepsFirst old new store.accounts events) where
+module _ {old new : Told} (law : Lawful new) (alone : ByDisk old new) (placed : Placed) (events : List AccountEvent)
+    (leaves : IsKept old placed → KeepsFirst old new placed.state events) where
   no_reading : new.readings ≡ old.readings ++ []
   no_reading = alone.readings ∙ sym (append-nil _)
 
-  pub keeps_all : (after : Store) → after.accounts ≡ after_all store.accounts events
-      → GrewBy store.journal.length after.journal.length events → (Kept old store → Kept new after)
-      → Transfer old new (acting store after (acts_of events)) nothing
+  pub keeps_all : (after : Placed) → after.state ≡ after_all placed.state events
+      → GrewBy placed.store.journal.length after.store.journal.length events → (IsKept old placed → IsKept new after)
+      → Transfer old new (acting placed after (acts_of events)) nothing
   keeps_all after is grew kept =
-      untouched (acting store after (acts_of events)) nothing (λ c. (refl, refl)) refl (bytes_of-keeps events) refl
-      (does_keep store after events nothing law alone is
-      (subst (λ (l : List AccountEvent). GrewBy store.journal.length after.journal.length l) (sym
+      untouched (acting placed after (acts_of events)) nothing (λ c. (refl, refl)) refl (bytes_of-keeps events) refl
+      (does_keep placed after events nothing law alone is
+      (subst (λ (l : List AccountEvent). GrewBy placed.store.journal.length after.store.journal.length l) (sym
       (events_in-keeps events)) grew)
       leaves kept) no_reading alone.connections
 
-  pub keeps_some : Transfer old new (acting store (record store { accounts = after_all store.accounts events })
+  pub keeps_some : Transfer old new (acting placed (record placed { accounts = after_all placed.state events })
       (acts_of events)) breaking
   keeps_some =
-      let after = record store { accounts = after_all store.accounts events } in
-      untouched (acting store after (acts_of events)) breaking (λ c. (refl, refl)) refl (bytes_of-keeps events) refl
-      (does_keep store after events breaking law alone refl tt leaves (λ kept. tt)) no_reading alone.connections
+      let after = record placed { accounts = after_all placed.state events } in
+      untouched (acting placed after (acts_of events)) breaking (λ c. (refl, refl)) refl (bytes_of-keeps events) refl
+      (does_keep placed after events breaking law alone refl tt leaves (λ kept. tt)) no_reading alone.connections

@@ -9,8 +9,13 @@ use Rattle.glacier_disk.specs.Moments.{joined, weaker}
 use Rattle.glacier_disk.specs.Told.{Told}
 use Rattle.glacier_machine.specs.declared.action.Request.{Request}
 use Rattle.glacier_machine.specs.declared.config.Config.{Config}
-use Rattle.glacier_machine.specs.Outcomes.{after_all, events_of, rules_of}
-use Rattle.glacier_vault.specs.Accounts.{Accounts, AccountEvent}
+use Rattle.glacier_machine.specs.Moments.{after_moment}
+use Rattle.glacier_machine.specs.AccountSteps.{asked_step}
+use Rattle.glacier_machine.specs.Outcomes.{events_of, moment_of, rules_of, step_outcome}
+use Rattle.glacier_replay.specs.Changes.{State, after_all}
+use Rattle.glacier_replay.specs.Standing.{Stands}
+use Rattle.glacier_vault.specs.Accounts.{Accounts, AccountEvent, account_in}
+use Rattle.glacier_vault.specs.declared.state.AccountState.{AccountState}
 use Rattle.glacier_vault.specs.declared.event.Event.{Event}
 use Rattle.glacier_vault.specs.declared.rules.Rules.{Rules}
 use Rattle.glacier_server.specs.declared.end.ServeFault.{ServeFault}
@@ -20,10 +25,8 @@ use Rattle.glacier_server.specs.Rooms.{GrewBy, HasNoRoom, EndsJournal}
 use Rattle.glacier_server.specs.Machine.{asked_outcome, told_of}
 use Rattle.glacier_server.proofs.ActLemmas.{after_append}
 use Rattle.glacier_server.proofs.RoomLemmas.{grew_behind, grew_room, no_room_for}
-use Rattle.glacier_store.specs.Calls.{Commits, Grows}
-use Rattle.glacier_store.specs.Changes.{Changes, Stays}
-use Rattle.glacier_store.specs.Events.{after_pass, pass_moment, room_of}
-use Rattle.glacier_store.specs.Stands.{Kept, Stands}
+use Rattle.glacier_store.specs.Kept.{Changes, Kept, Stays}
+use Rattle.glacier_store.specs.Steps.{Advances, Grows, accounts_after, room_of}
 use Rattle.glacier_store.specs.declared.fault.StoreFault.{StoreFault}
 use Rattle.glacier_store.specs.declared.fault.StoreFault.TheVariants as store_fault
 use Rattle.glacier_store.specs.declared.store.Store.{Store}
@@ -47,7 +50,7 @@ is_end (store_fault.End n) other length is same =
     let at : n ≡ length = cc in ap store_fault.End at
 
 -- a state is the one after no event, and the last is the one after all of them
-sooner : (state : Accounts) (events more : List AccountEvent) (i : Image) → StandsForFirst state events i
+sooner : (state : State) (events more : List AccountEvent) (i : Image) → StandsForFirst state events i
     → StandsForFirst state (events ++ more) i
 sooner state events more i x =
     let n : ℕ = min x.count (length events) in
@@ -57,15 +60,15 @@ sooner state events more i x =
           ∙ sym (take-append-le n events more (omega arith))) x.stands;
     }
 
-later : (state : Accounts) (first more : List AccountEvent) (i : Image)
+later : (state : State) (first more : List AccountEvent) (i : Image)
     → StandsForFirst (after_all state first) more i → StandsForFirst state (first ++ more) i
 later state first more i x = record {
   count = length first + x.count;
-  stands = subst (λ (s : Accounts). Stands i s) (sym (after_append state first (take x.count more))
+  stands = subst (λ (s : State). Stands i s) (sym (after_append state first (take x.count more))
       ∙ ap (after_all state) (sym (take-append-add first more x.count))) x.stands;
 }
 
-either : (state : Accounts) (events : List AccountEvent) (i : Image) → Stands i state ⊎ Stands i (after_all state events)
+either : (state : State) (events : List AccountEvent) (i : Image) → Stands i state ⊎ Stands i (after_all state events)
     → StandsForFirst state events i
 either state events i = ⊎_elim
     (λ before. record { count = 0; stands = before })
@@ -90,7 +93,7 @@ ends_sooner store events more length x = record {
     go [] none = absurd none
     go (happened ∷ left) none = none
 
-module _ {old new : Told} (state : Accounts) (events : List AccountEvent) where
+module _ {old new : Told} (state : State) (events : List AccountEvent) where
   pub changes_first : Changes old new state (after_all state events) → KeepsFirst old new state events
   changes_first changes = weaker old new _ _ changes (either state events)
 
@@ -98,9 +101,9 @@ module _ {old new : Told} (state : Accounts) (events : List AccountEvent) where
   stays_first stays = weaker old new _ _ stays (λ i now. record { count = 0; stands = now })
 
 -- the journal was at its end before the only event, if there is one
-at_end : {U : Type 0} (store : Store) (account : List ℕ) (m : ℕ) (event : Option Event) (fault : StoreFault)
+at_end : (store : Store) (account : List ℕ) (m : ℕ) (event : Option Event) (fault : StoreFault)
     (length : ℕ) → fault ≡ store_fault.End length
-    → Grows {T = U} store.journal (room_of (events_of account m event)) (Err fault)
+    → Grows store.journal (room_of (events_of account m event)) (Err fault)
     → EndsJournal store (events_of account m event) length
 at_end store account m event fault length is grows = go event (grows.end length (ap Err is)) (grows.some length (ap Err is))
   where
@@ -117,80 +120,89 @@ at_end store account m event fault length is grows = go event (grows.end length 
     }
 
 -- one call of the store, which keeps an event, if there is one
-module _ {T U : Type 0} {old new : Told} (store : Store) (account : List ℕ) (m : ℕ) (event : Option Event) where
+module _ {T : Type 0} {old new : Told} (store : Store) (account : List ℕ) (m : ℕ) (event : Option Event) where
   -- it is kept
-  pub action_done : (one : Store) (x : U) (value : T)
-      → Commits {T = U} old new store (after_all store.accounts (events_of account m event)) (Ok (one, x))
-      → one.accounts ≡ after_all store.accounts (events_of account m event) → Grows {T = U} store.journal (room_of (events_of account m event)) (Ok (one, x))
+  pub action_done : (one : Store) (value : T) → Advances old new store (events_of account m event) (Ok one)
+      → one.accounts ≡ accounts_after store.accounts (events_of account m event)
+      → Grows store.journal (room_of (events_of account m event)) (Ok one)
       → KeepsEvents {T = T} old new store [] (events_of account m event) (Ok (value, one))
-  action_done one x value commits is grows = record {
+  action_done one value advances is grows = record {
     accounts = is;
     grew = grew_room store.journal.length one.journal.length (events_of account m event) grows.longer;
-    any_moment = λ kept. changes_first store.accounts (events_of account m event) (commits.any_moment kept);
-    kept = λ kept. commits.kept kept;
-    memory = λ kept never. absurd (cc);
+    any_moment = λ state kept. changes_first state (events_of account m event) (advances.any_moment state kept);
+    kept = λ state kept. advances.kept state kept;
+    memory = λ state kept never. absurd (cc);
     end = λ length never. absurd (cc);
   }
 
   -- or a fault broke the server off
   pub action_broken : (fault : StoreFault) (other : ServeFault) → IsFault fault other
-      → Commits {T = U} old new store (after_all store.accounts (events_of account m event)) (Err fault)
-      → Grows {T = U} store.journal (room_of (events_of account m event)) (Err fault)
+      → Advances old new store (events_of account m event) (Err fault)
+      → Grows store.journal (room_of (events_of account m event)) (Err fault)
       → KeepsEvents {T = T} old new store [] (events_of account m event) (Err other)
-  action_broken fault other is commits grows = record {
+  action_broken fault other is advances grows = record {
     accounts = tt;
     grew = tt;
-    any_moment = λ kept. changes_first store.accounts (events_of account m event) (commits.any_moment kept);
-    kept = λ kept. tt;
-    memory = λ kept same. let at : other ≡ Memory = cc in
-        stays_first store.accounts [] (commits.memory kept (ap Err (is_memory fault other is at)));
+    any_moment = λ state kept. changes_first state (events_of account m event) (advances.any_moment state kept);
+    kept = λ state kept. tt;
+    memory = λ state kept same. let at : other ≡ Memory = cc in
+        stays_first state [] (advances.memory state kept (ap Err (is_memory fault other is at)));
     end = λ length same. let at : other ≡ JournalEnd length = cc in
         at_end store account m event fault length (is_end fault other length is at) grows;
   }
 
   -- it was one of time that passes, and what was to be done behind it wasn't
   pub pass_broken : (done : List AccountEvent) (fault : StoreFault) (other : ServeFault) → IsFault fault other
-      → Commits {T = U} old new store (after_all store.accounts (events_of account m event)) (Err fault)
-      → Grows {T = U} store.journal (room_of (events_of account m event)) (Err fault)
+      → Advances old new store (events_of account m event) (Err fault)
+      → Grows store.journal (room_of (events_of account m event)) (Err fault)
       → KeepsEvents {T = T} old new store (events_of account m event) done (Err other)
-  pass_broken done fault other is commits grows = record {
+  pass_broken done fault other is advances grows = record {
     accounts = tt;
     grew = tt;
-    any_moment = λ kept. weaker old new _ _ (changes_first store.accounts (events_of account m event) (commits.any_moment kept))
-        (sooner store.accounts (events_of account m event) done);
-    kept = λ kept. tt;
-    memory = λ kept same. let at : other ≡ Memory = cc in
-        stays_first store.accounts (events_of account m event) (commits.memory kept (ap Err (is_memory fault other is at)));
+    any_moment = λ state kept. weaker old new _ _ (changes_first state (events_of account m event) (advances.any_moment state kept))
+        (sooner state (events_of account m event) done);
+    kept = λ state kept. tt;
+    memory = λ state kept same. let at : other ≡ Memory = cc in
+        stays_first state (events_of account m event) (advances.memory state kept (ap Err (is_memory fault other is at)));
     end = λ length same. let at : other ≡ JournalEnd length = cc in
         ends_sooner store (events_of account m event) done length
         (at_end store account m event fault length (is_end fault other length is at) grows);
   }
 
--- time passed, and then something was done
-behind : (state : Accounts) (passed : List AccountEvent) (mid : Accounts) → mid ≡ after_all state passed
-    → (more : List AccountEvent) (i : Image) → StandsForFirst mid more i → StandsForFirst state (passed ++ more) i
-behind state passed mid is more i x =
-    later state passed more i (subst (λ (s : Accounts). StandsForFirst s more i) is x)
+-- the accounts after events one behind the other
+pub accounts_append : (accounts : Accounts) (first more : List AccountEvent)
+    → accounts_after accounts (first ++ more) ≡ accounts_after (accounts_after accounts first) more
+accounts_append accounts [] more = refl
+accounts_append accounts (h ∷ first) more = accounts_append _ first more
 
+-- and those of a state
+pub accounts_of_all : (state : State) (events : List AccountEvent)
+    → (after_all state events).accounts ≡ accounts_after state.accounts events
+accounts_of_all state [] = refl
+accounts_of_all state (h ∷ more) = accounts_of_all _ more
+
+-- time passed, and then something was done
 module _ {T : Type 0} {old mid new : Told} (store one : Store) (passed done : List AccountEvent)
-    (is : one.accounts ≡ after_all store.accounts passed)
-    (leaves : Kept old store → KeepsFirst old mid store.accounts passed) (kept : Kept old store → Kept mid one)
+    (is : one.accounts ≡ accounts_after store.accounts passed)
+    (leaves : (state : State) → Kept old store state → KeepsFirst old mid state passed)
+    (kept : (state : State) → Kept old store state → Kept mid one (after_all state passed))
     (grew : GrewBy store.journal.length one.journal.length passed) where
   pub passed_then : (result : Result (T × Store) ServeFault) → KeepsEvents {T = T} mid new one [] done result
       → KeepsEvents {T = T} old new store passed done result
   passed_then result x = record {
-    accounts = IfOk-weaker result _ _ (λ r at. at ∙ ap (λ (s : Accounts). after_all s done) is
-        ∙ sym (after_append store.accounts passed done)) x.accounts;
+    accounts = IfOk-weaker result _ _ (λ r at. at ∙ ap (λ (s : Accounts). accounts_after s done) is
+        ∙ sym (accounts_append store.accounts passed done)) x.accounts;
     grew = IfOk-weaker result _ _ (λ r more. grew_behind store.journal.length one.journal.length r.1.journal.length
         passed done grew more) x.grew;
-    any_moment = λ was. joined {old = old} {mid = mid} {new = new} (StandsForFirst store.accounts (passed ++ done))
-        (StandsForFirst one.accounts done)
-        (weaker old mid _ _ (leaves was) (sooner store.accounts passed done))
-        (x.any_moment (kept was)) (behind store.accounts passed one.accounts is done);
-    kept = λ was. x.kept (kept was);
-    memory = λ was wanting. joined {old = old} {mid = mid} {new = new} (StandsForFirst store.accounts passed)
-        (StandsForFirst one.accounts []) (leaves was) (x.memory (kept was) wanting)
-        (λ i s. subst (λ (l : List AccountEvent). StandsForFirst store.accounts l i) (append-nil passed) (behind store.accounts passed one.accounts is [] i s));
+    any_moment = λ state was. joined {old = old} {mid = mid} {new = new} (StandsForFirst state (passed ++ done))
+        (StandsForFirst (after_all state passed) done)
+        (weaker old mid _ _ (leaves state was) (sooner state passed done))
+        (x.any_moment (after_all state passed) (kept state was)) (later state passed done);
+    kept = λ state was. IfOk-weaker result _ _ (λ r now. subst (λ (s : State). Kept new r.1 s)
+        (sym (after_append state passed done)) now) (x.kept (after_all state passed) (kept state was));
+    memory = λ state was wanting. joined {old = old} {mid = mid} {new = new} (StandsForFirst state passed)
+        (StandsForFirst (after_all state passed) []) (leaves state was) (x.memory (after_all state passed) (kept state was) wanting)
+        (λ i s. subst (λ (l : List AccountEvent). StandsForFirst state l i) (append-nil passed) (later state passed [] i s));
     end = λ length full.
         let end = x.end length full in record {
           kept = passed ++ end.kept;
@@ -203,11 +215,12 @@ module _ {T : Type 0} {old mid new : Told} (store one : Store) (passed done : Li
 
 -- the outcome of a request is that of what is asked once time has passed
 pub asked_behind : (config : Config) (rules : Rules) (request : Request) (reading m : ℕ) (accounts one : Accounts)
-    → rules ≡ rules_of config request.account → m ≡ pass_moment request.account reading accounts
-    → one ≡ after_pass request.account reading accounts
+    → rules ≡ rules_of config request.account → m ≡ moment_of (account_in accounts request.account) reading
+    → account_in one request.account ≡ after_moment m (account_in accounts request.account)
     → asked_outcome rules m request.asked one
     ≡ record (told_of (rules_of config request.account) accounts request reading) { passed = [] }
 asked_behind config rules request reading m accounts one is at same =
-    ap (λ (s : Accounts). asked_outcome rules m request.asked s) same
-    ∙ ap (λ (n : ℕ). asked_outcome rules n request.asked accounts) at
-    ∙ ap (λ (r : Rules). asked_outcome r (pass_moment request.account reading accounts) request.asked accounts) is
+    ap (λ (r : Rules). asked_outcome r m request.asked one) is
+    ∙ ap (λ (s : AccountState). step_outcome request.account m [] (asked_step (rules_of config request.account) m request.asked s)) same
+    ∙ ap (λ (n : ℕ). step_outcome request.account n [] (asked_step (rules_of config request.account) n request.asked
+    (after_moment n (account_in accounts request.account)))) at

@@ -13,11 +13,11 @@ use Rattle.glacier_server.specs.Does.{Does, Failing, nothing, receiving, sending
 use Rattle.glacier_server.proofs.ActLemmas.{bytes_of-append}
 use Rattle.glacier_server.proofs.DoesLemmas.{does_nothing, does_then, does_break}
 use Rattle.glacier_server.proofs.SessionLemmas.{joined, all_more, same_wait}
-use Rattle.glacier_store.specs.declared.store.Store.{Store}
+use Rattle.glacier_server.specs.Placed.{Placed}
 
 -- no call at all
-pub stays : (s : Told) (store : Store) → Transfer s s (taking store [] []) nothing
-stays s store = record {
+pub stays : (s : Told) (placed : Placed) → Transfer s s (taking placed [] []) nothing
+stays s placed = record {
   took = sym (append-nil _);
   coming = refl;
   sent_now = sym (append-nil _);
@@ -25,7 +25,7 @@ stays s store = record {
   read = sym (append-nil _);
   rest = refl;
   fails = (refl, refl);
-  does = does_nothing s store;
+  does = does_nothing s placed;
 }
 
 -- a call that fails behind others that didn't
@@ -49,11 +49,11 @@ then {a = a} {b = b} {c = c} {failing = failing} s t leads first second = record
   read = second.read ∙ ap (λ (l : List ℕ). l ++ t.readings) first.read ∙ append_assoc _ s.readings t.readings;
   rest = second.rest ∙ first.rest;
   fails = fails_then failing _ _ _ first.fails second.fails;
-  does = does_then first.does (subst (λ (k : Store). Does b c k t.after t.acts failing) leads second.does);
+  does = does_then first.does (subst (λ (k : Placed). Does b c k t.after t.acts failing) leads second.does);
 }
 
 -- only acts behind it
-pub acts_then : {a b c : Told} {failing : Failing} (s : Session) (after : Store) (acts : List Act)
+pub acts_then : {a b c : Told} {failing : Failing} (s : Session) (after : Placed) (acts : List Act)
     → Transfer a b s nothing → Transfer b c (acting s.after after acts) failing
     → Transfer a c (record s { after = after; acts = s.acts ++ acts }) failing
 acts_then {a = a} {c = c} {failing = failing} s after acts first second =
@@ -71,9 +71,9 @@ pub says : {a b : Told} {failing : Failing} (s : Session) (acts : List Act) → 
 says {a = a} {b = b} {failing = failing} s acts same x = subst (λ (l : List Act). Transfer a b
     (record s { acts = l }) failing) same x
 
-pub leads : {a b : Told} {failing : Failing} (s : Session) (after : Store) → s.after ≡ after
+pub leads : {a b : Told} {failing : Failing} (s : Session) (after : Placed) → s.after ≡ after
     → Transfer a b s failing → Transfer a b (record s { after = after }) failing
-leads {a = a} {b = b} {failing = failing} s after same x = subst (λ (k : Store). Transfer a b
+leads {a = a} {b = b} {failing = failing} s after same x = subst (λ (k : Placed). Transfer a b
     (record s { after = k }) failing) same x
 
 -- what failed, said otherwise
@@ -111,7 +111,7 @@ takes_none s Holds = record {
 }
 
 -- a store of no account
-unkept : Store
+unkept : Placed
 unkept = record { accounts = map.empty; journal = record { area = Lead; length = 17; enough = omega arith; within = omega arith } }
 
 module _ {a b c : Told} {failing : Failing} (got more : List ℕ) (P Q : List ℕ
@@ -150,8 +150,8 @@ module _ {a b c : Told} {failing : Failing} (got more : List ℕ) (P Q : List �
   pub takes_then : Takes a c (got ++ more) P failing
   takes_then = record {
     waits = first.waits ++ second.waits;
-    transfer = λ store. then (taking store got first.waits) (taking store more second.waits) refl
-        (first.transfer store) (second.transfer store);
+    transfer = λ placed. then (taking placed got first.waits) (taking placed more second.waits) refl
+        (first.transfer placed) (second.transfer placed);
     each =
         All-append (TakenAt (wait_of (current a.connections)) (got ++ more) P) first.waits second.waits
         (all_more (TakenAt (wait_of (current a.connections)) got P) (TakenAt (wait_of (current a.connections))

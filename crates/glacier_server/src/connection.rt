@@ -4,7 +4,9 @@ ghost use Rattle.glacier_server.specs.Headline.{HeadlineLast};
 ghost use Rattle.glacier_server.specs.Served.{ServedLast, failing_to};
 ghost use Rattle.glacier_server.specs.Breaking.{PartLast, HasBroken};
 ghost use Rattle.glacier_server.specs.Transfer.{Keeps};
-ghost use Rattle.glacier_store.specs.Stands.{Kept};
+ghost use Rattle.glacier_server.specs.Placed.{placed_as};
+ghost use Rattle.glacier_replay.specs.Changes.{State};
+ghost use Rattle.glacier_store.specs.Kept.{Kept};
 
 use crate::buffers::Buffers;
 use crate::end::{End, ServeFault};
@@ -25,10 +27,13 @@ impl Service<'_> {
     ) -> Result<(End, Store), ServeFault>
         requires connected { (S.told station.old).connected ≡ true }
         requires open { (S.told station.old).opened ≡ true }
-        ensures served { IsTrue S.tells → IfOk result (λ r. ServedLast self.now.config.now
-            (S.told station.old) (S.told station.new) store r.1 r.0) }
-        ensures broken { IsTrue S.tells → IfErr result (λ fault. PartLast self.now.config.now
-            (S.told station.old) (S.told station.new) store fault) }
+        ensures served { IsTrue S.tells → (state : State) → store.accounts ≡ state.accounts →
+            IfOk result (λ r. (after : State) × ServedLast self.now.config.now
+            (S.told station.old) (S.told station.new) (placed_as store state)
+            (placed_as r.1 after) r.0) }
+        ensures broken { IsTrue S.tells → (state : State) → store.accounts ≡ state.accounts →
+            IfErr result (λ fault. PartLast self.now.config.now
+            (S.told station.old) (S.told station.new) (placed_as store state) fault) }
         ensures fault { IfErr result
             (λ fault. HasBroken fault (S.told station.old) (S.told station.new)) }
         ensures keeps { Keeps (S.told station.old) (S.told station.new) (failing_to result) }
@@ -64,12 +69,14 @@ pub fn serve_connection<S: Station>(
 ) -> Result<(End, Store), ServeFault>
     requires connected { (S.told station.old).connected ≡ true }
     requires open { (S.told station.old).opened ≡ true }
-    ensures served { IsTrue S.tells → IfOk result (λ r. ServedLast config.now (S.told station.old)
-        (S.told station.new) store r.1 r.0) }
-    ensures broken { IsTrue S.tells → IfErr result (λ fault. PartLast config.now
-        (S.told station.old) (S.told station.new) store fault) }
-    ensures headline { IsTrue S.tells → Kept (S.told station.old) store →
-        HeadlineLast config.now (S.told station.old) (S.told station.new) store }
+    ensures served { IsTrue S.tells → (state : State) → store.accounts ≡ state.accounts →
+        IfOk result (λ r. (after : State) × ServedLast config.now (S.told station.old)
+        (S.told station.new) (placed_as store state) (placed_as r.1 after) r.0) }
+    ensures broken { IsTrue S.tells → (state : State) → store.accounts ≡ state.accounts →
+        IfErr result (λ fault. PartLast config.now (S.told station.old) (S.told station.new)
+        (placed_as store state) fault) }
+    ensures headline { IsTrue S.tells → (state : State) → Kept (S.told station.old) store state →
+        HeadlineLast config.now (S.told station.old) (S.told station.new) (placed_as store state) }
     ensures fault { IfErr result
         (λ fault. HasBroken fault (S.told station.old) (S.told station.new)) }
     ensures keeps { Keeps (S.told station.old) (S.told station.new) (failing_to result) }

@@ -10,6 +10,8 @@ ghost use Rattle.glacier_server.specs.Breaking.{HasBroken};
 ghost use Rattle.glacier_server.specs.declared.end.ServeFault.TheVariants as fault;
 ghost use Rattle.glacier_server.specs.Transfer.{Keeps};
 ghost use Rattle.glacier_server.specs.Does.{nothing};
+ghost use Rattle.glacier_server.specs.Placed.{placed_as};
+ghost use Rattle.glacier_replay.specs.Changes.{State};
 
 use crate::body::{front_of, take_body};
 use crate::buffers::Buffers;
@@ -83,7 +85,7 @@ impl Service<'_> {
         requires below { count < MOST_MESSAGES }
         ensures exchange { IsTrue S.tells → (from : Standing) → BadStands from count cause →
             IfOk result (λ end. Exchanges self.now.config.now from
-            (standing (count + 1) from.unread from.store) (S.told station.old) (S.told station.new)
+            (standing (count + 1) from.unread from.placed) (S.told station.old) (S.told station.new)
             (Some end)) }
         ensures broken { IsTrue S.tells → (from : Standing) → BadStands from count cause →
             OnErr result (BreaksOff self.now.config.now from (S.told station.old) (S.told
@@ -117,12 +119,15 @@ impl Service<'_> {
         requires good { IsStep buffers.old.unread buffers.old.head (step.Head spans.now) }
         requires small { spans.now.content_length ≤ 2 ^ 33 }
         requires below { count < MOST_MESSAGES }
-        ensures exchange { IsTrue S.tells → IfOk result (λ r. Exchanges self.now.config.now
-            (standing count buffers.old.unread store) (standing (count + 1) buffers.new.unread r.1)
+        ensures exchange { IsTrue S.tells → (state : State) → store.accounts ≡ state.accounts →
+            IfOk result (λ r. (after : State) × Exchanges self.now.config.now
+            (standing count buffers.old.unread (placed_as store state))
+            (standing (count + 1) buffers.new.unread (placed_as r.1 after))
             (S.told station.old) (S.told station.new) r.0) }
-        ensures broken { IsTrue S.tells → IfErr result (λ fault. BreaksOff self.now.config.now
-            (standing count buffers.old.unread store) (S.told station.old) (S.told station.new)
-            fault) }
+        ensures broken { IsTrue S.tells → (state : State) → store.accounts ≡ state.accounts →
+            IfErr result (λ fault. BreaksOff self.now.config.now
+            (standing count buffers.old.unread (placed_as store state)) (S.told station.old)
+            (S.told station.new) fault) }
         ensures fault { IfErr result
             (λ fault. HasBroken fault (S.told station.old) (S.told station.new)) }
         ensures below { IfOk result (λ r. r.0 ≡ None → count + 1 < MOST_MESSAGES) }
@@ -176,12 +181,15 @@ impl Service<'_> {
         requires connected { (S.told station.old).connected ≡ true }
         requires open { (S.told station.old).opened ≡ true }
         requires below { count < MOST_MESSAGES }
-        ensures exchange { IsTrue S.tells → IfOk result (λ r. Exchanges self.now.config.now
-            (standing count buffers.old.unread store) (standing (count + 1) buffers.new.unread r.1)
+        ensures exchange { IsTrue S.tells → (state : State) → store.accounts ≡ state.accounts →
+            IfOk result (λ r. (after : State) × Exchanges self.now.config.now
+            (standing count buffers.old.unread (placed_as store state))
+            (standing (count + 1) buffers.new.unread (placed_as r.1 after))
             (S.told station.old) (S.told station.new) r.0) }
-        ensures broken { IsTrue S.tells → IfErr result (λ fault. BreaksOff self.now.config.now
-            (standing count buffers.old.unread store) (S.told station.old) (S.told station.new)
-            fault) }
+        ensures broken { IsTrue S.tells → (state : State) → store.accounts ≡ state.accounts →
+            IfErr result (λ fault. BreaksOff self.now.config.now
+            (standing count buffers.old.unread (placed_as store state)) (S.told station.old)
+            (S.told station.new) fault) }
         ensures fault { IfErr result
             (λ fault. HasBroken fault (S.told station.old) (S.told station.new)) }
         ensures below { IfOk result (λ r. r.0 ≡ None → count + 1 < MOST_MESSAGES) }

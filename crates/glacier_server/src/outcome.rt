@@ -138,8 +138,9 @@ impl Service<'_> {
         ensures alone { D.by_disk disk.old disk.new }
     {
         let rules = self.config.rules(request.account);
-        match store.pass(disk, &request.account, reading) {
-            Ok((store, m)) => self.reply_to_asked(disk, store, &rules, m, &request.asked),
+        let m = store.accounts.last(&request.account).later(reading);
+        match store.pass(self.alloc, disk, &request.account, m) {
+            Ok(store) => self.reply_to_asked(disk, store, &rules, m, &request.asked),
             Err(fault) => Err(fault_of(fault)),
         }
     }

@@ -3,7 +3,9 @@ ghost use Rattle.std.specs.Prelude.{◌≡◌, ◌+◌, ◌<◌, ◌≤◌, IsTr
 ghost use Rattle.glacier_server.specs.Headline.{Headline};
 ghost use Rattle.glacier_server.specs.Breaking.{ShowsDisk};
 ghost use Rattle.glacier_server.specs.Serving.{Serves, Breaks, Broken, JustAccepted, ServesOn, ShowsFault};
-ghost use Rattle.glacier_store.specs.Stands.{Kept};
+ghost use Rattle.glacier_server.specs.Placed.{placed_as};
+ghost use Rattle.glacier_replay.specs.Changes.{State};
+ghost use Rattle.glacier_store.specs.Kept.{Kept};
 
 use crate::buffers::Buffers;
 use crate::end::ServeFault;
@@ -23,12 +25,16 @@ impl Service<'_> {
     ) -> Result<Store, ServeFault>
         requires connected { (S.told station.old).connected ≡ true }
         requires open { (S.told station.old).opened ≡ true }
-        ensures served { IsTrue S.tells → (old : S) →
-            JustAccepted (S.told old) (S.told station.old) store → IfOk result
-            (λ after. Serves self.now.config.now (S.told old) (S.told station.new) store after 1) }
-        ensures broken { IsTrue S.tells → (old : S) →
-            JustAccepted (S.told old) (S.told station.old) store → IfErr result
-            (λ fault. Breaks self.now.config.now (S.told old) (S.told station.new) store 1 fault) }
+        ensures served { IsTrue S.tells → (old : S) (state : State) →
+            store.accounts ≡ state.accounts →
+            JustAccepted (S.told old) (S.told station.old) (placed_as store state) →
+            IfOk result (λ left. (after : State) × Serves self.now.config.now
+            (S.told old) (S.told station.new) (placed_as store state) (placed_as left after) 1) }
+        ensures broken { IsTrue S.tells → (old : S) (state : State) →
+            store.accounts ≡ state.accounts →
+            JustAccepted (S.told old) (S.told station.old) (placed_as store state) →
+            IfErr result (λ fault. Breaks self.now.config.now
+            (S.told old) (S.told station.new) (placed_as store state) 1 fault) }
         ensures fault { ShowsDisk result (S.told station.old) (S.told station.new) }
         ensures kept { (S.told station.old).listener.listening ≡ true →
             ServesOn (S.told station.old) (S.told station.new) }
@@ -57,10 +63,13 @@ impl Service<'_> {
         requires listening { (S.told station.old).listener.listening ≡ true }
         requires free { (S.told station.old).connected ≡ false }
         requires open { (S.told station.old).opened ≡ true }
-        ensures served { IsTrue S.tells → IfOk result (λ r. Serves self.now.config.now
-            (S.told station.old) (S.told station.new) store r.1 (if r.0 then 1 else 0)) }
-        ensures broken { IsTrue S.tells → IfErr result (λ fault. Breaks self.now.config.now
-            (S.told station.old) (S.told station.new) store 1 fault) }
+        ensures served { IsTrue S.tells → (state : State) → store.accounts ≡ state.accounts →
+            IfOk result (λ r. (after : State) × Serves self.now.config.now
+            (S.told station.old) (S.told station.new) (placed_as store state)
+            (placed_as r.1 after) (if r.0 then 1 else 0)) }
+        ensures broken { IsTrue S.tells → (state : State) → store.accounts ≡ state.accounts →
+            IfErr result (λ fault. Breaks self.now.config.now
+            (S.told station.old) (S.told station.new) (placed_as store state) 1 fault) }
         ensures none { IsTrue S.tells →
             IfOk result (λ r. r.0 ≡ false → (S.told station.new).listener.to_come ≡ 0) }
         ensures kept { ServesOn (S.told station.old) (S.told station.new) }
@@ -95,12 +104,14 @@ pub fn serve<S: Station>(
     requires listening { (S.told station.old).listener.listening ≡ true }
     requires free { (S.told station.old).connected ≡ false }
     requires open { (S.told station.old).opened ≡ true }
-    ensures served { IsTrue S.tells → IfOk result (λ r. Serves config.now (S.told station.old)
-        (S.told station.new) store r.1 r.0) }
-    ensures broken { IsTrue S.tells → IfErr result (λ fault. Broken config.now
-        (S.told station.old) (S.told station.new) store connections fault) }
-    ensures headline { IsTrue S.tells → Kept (S.told station.old) store →
-        Headline config.now (S.told station.old) (S.told station.new) store }
+    ensures served { IsTrue S.tells → (state : State) → store.accounts ≡ state.accounts →
+        IfOk result (λ r. (after : State) × Serves config.now (S.told station.old)
+        (S.told station.new) (placed_as store state) (placed_as r.1 after) r.0) }
+    ensures broken { IsTrue S.tells → (state : State) → store.accounts ≡ state.accounts →
+        IfErr result (λ fault. Broken config.now (S.told station.old) (S.told station.new)
+        (placed_as store state) connections fault) }
+    ensures headline { IsTrue S.tells → (state : State) → Kept (S.told station.old) store state →
+        Headline config.now (S.told station.old) (S.told station.new) (placed_as store state) }
     ensures most { IfOk result (λ r. r.0 ≤ connections) }
     ensures fewer { IsTrue S.tells →
         IfOk result (λ r. r.0 < connections → (S.told station.new).listener.to_come ≡ 0) }

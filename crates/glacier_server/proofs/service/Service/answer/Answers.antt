@@ -23,14 +23,14 @@ returns-in-Err-clause-exchange g c t =
     let failed = c.in-Err.ensures.failed t in
     body_failed c.args.self.now.config.now (standing c.args.count c.args.buffers.now.unread c.args.store) c.args.buffers.now.head c.args.spans.now _ _ c.requires.good
     (extends_by _ _ _ _ _ c.count-length.ensures.same c.extent_of-extent.ensures.used c.extent_of-extent.ensures.left)
-    (λ store. reads store c.now-reading.result c.now-reading.ensures.call
+    (λ placed. reads placed c.now-reading.result c.now-reading.ensures.call
     (c.now-reading.ensures.reading t)) failed.2 failed.1 _ refl
 
 pub returns-then-left-gt0-clause-exchange : goal.returns-then-left-gt0-clause-exchange
 returns-then-left-gt0-clause-exchange g c t =
     body_cut c.args.self.now.config.now (standing c.args.count c.args.buffers.now.unread c.args.store) c.args.buffers.now.head c.args.spans.now _ _ c.requires.good
     (extends_by _ _ _ _ _ c.count-length.ensures.same c.extent_of-extent.ensures.used c.extent_of-extent.ensures.left)
-    (λ store. reads store c.now-reading.result c.now-reading.ensures.call (c.now-reading.ensures.reading t))
+    (λ placed. reads placed c.now-reading.result c.now-reading.ensures.call (c.now-reading.ensures.reading t))
     (c.in-Ok.ensures.takes t).rest
     c.if-left-gt0.true (c.in-Ok.ensures.end t c.if-left-gt0.true) _ c.count-length.ensures.same _ refl
 
@@ -41,7 +41,7 @@ returns-in-Err-replied-clause-broken g c t =
     let alone = g.met.S.Disk.by_disk_keeps c.take_body.new.station c.reply_to_message-replied.new.disk c.reply_to_message-replied.ensures.alone in
     reply_unmade c.args.self.now.config.now (standing c.args.count c.args.buffers.now.unread c.args.store) c.args.buffers.now.head c.args.spans.now _ _ c.requires.good
     (extends_by _ _ _ _ _ c.count-length.ensures.same c.extent_of-extent.ensures.used c.extent_of-extent.ensures.left)
-    (λ store. reads store c.now-reading.result c.now-reading.ensures.call (c.now-reading.ensures.reading t))
+    (λ placed. reads placed c.now-reading.result c.now-reading.ensures.call (c.now-reading.ensures.reading t))
     (c.in-Ok.ensures.takes t).rest (omega (arith, c.if-left-gt0.false))
     (end_of_good c.args.count c.args.spans.now.close) c.front_of-kept.result.now
     (kept_body c.args.self.now.config.now (standing c.args.count c.args.buffers.now.unread c.args.store) c.args.buffers.now.head c.args.spans.now _ _ c.now-reading.result c.requires.good
@@ -58,7 +58,7 @@ returns-in-Ok-send_reply-clause-exchange g c t =
     let alone = g.met.S.Disk.by_disk_keeps c.take_body.new.station c.reply_to_message-replied.new.disk c.reply_to_message-replied.ensures.alone in
     reply_sent c.args.self.now.config.now (standing c.args.count c.args.buffers.now.unread c.args.store) c.args.buffers.now.head c.args.spans.now _ _ c.requires.good
     (extends_by _ _ _ _ _ c.count-length.ensures.same c.extent_of-extent.ensures.used c.extent_of-extent.ensures.left)
-    (λ store. reads store c.now-reading.result c.now-reading.ensures.call (c.now-reading.ensures.reading t))
+    (λ placed. reads placed c.now-reading.result c.now-reading.ensures.call (c.now-reading.ensures.reading t))
     (c.in-Ok.ensures.takes t).rest (omega (arith, c.if-left-gt0.false))
     c.good_end-end.result c.front_of-kept.result.now
     (kept_body c.args.self.now.config.now (standing c.args.count c.args.buffers.now.unread c.args.store) c.args.buffers.now.head c.args.spans.now _ _ c.now-reading.result c.requires.good
@@ -77,7 +77,7 @@ returns-clause-exchange g c t =
     let alone = g.met.S.Disk.by_disk_keeps c.take_body.new.station c.reply_to_message-replied.new.disk c.reply_to_message-replied.ensures.alone in
     reply_unsent c.args.self.now.config.now (standing c.args.count c.args.buffers.now.unread c.args.store) c.args.buffers.now.head c.args.spans.now _ _ c.requires.good
     (extends_by _ _ _ _ _ c.count-length.ensures.same c.extent_of-extent.ensures.used c.extent_of-extent.ensures.left)
-    (λ store. reads store c.now-reading.result c.now-reading.ensures.call (c.now-reading.ensures.reading t))
+    (λ placed. reads placed c.now-reading.result c.now-reading.ensures.call (c.now-reading.ensures.reading t))
     (c.in-Ok.ensures.takes t).rest (omega (arith, c.if-left-gt0.false))
     c.good_end-end.result c.front_of-kept.result.now
     (kept_body c.args.self.now.config.now (standing c.args.count c.args.buffers.now.unread c.args.store) c.args.buffers.now.head c.args.spans.now _ _ c.now-reading.result c.requires.good
