@@ -9,7 +9,10 @@ use Rattle.glacier_disk.specs.Told.{Told}
 use Rattle.glacier_journal.specs.Breaks.{areas, first_full}
 use Rattle.glacier_journal.specs.Listed.{Payloads, Listed}
 use Rattle.glacier_journal.specs.declared.journal.Journal.{Journal}
-use Rattle.glacier_store.specs.Stands.{Stands, Refuses, Kept}
+use Rattle.glacier_replay.specs.Changes.{State}
+use Rattle.glacier_replay.specs.Standing.{Stands}
+use Rattle.glacier_store.specs.Calls.{no_state}
+use Rattle.glacier_store.specs.Kept.{Kept, Reads, Refuses}
 use Rattle.glacier_vault.specs.Accounts.{Accounts}
 use Rattle.glacier_store.specs.declared.fault.StoreFault.{StoreFault}
 use Rattle.glacier_store.specs.declared.fault.StoreFault.TheVariants as store
@@ -17,24 +20,29 @@ use Rattle.glacier_store.specs.declared.store.Store.{Store}
 use Rattle.glacier_cli.specs.declared.ending.Ending.{Ending}
 use Rattle.glacier_cli.specs.declared.ending.Ending.TheVariants.{DiskFault, NoMemory, NotAJournal, NotEmpty, JournalEnd}
 
--- the state that a store has when it is made in empty areas, or that the disk stands for when it is opened
-abbrev pub StartsFrom : Bool → Image → Accounts → Type 0
-StartsFrom true reads state = (first_full reads areas ≡ None) × (state ≡ map.empty)
+-- the state that is kept when a store is made in empty areas, or that the disk stands for when it is opened
+abbrev pub StartsFrom : Bool → Image → State → Type 0
+StartsFrom true reads state = (first_full reads areas ≡ None) × (state ≡ no_state)
 StartsFrom false reads state = Stands reads state
+
+-- the accounts that a store has when it is made in empty areas, or that the disk reads as when it is opened
+abbrev pub Finds : Bool → Image → Accounts → Type 0
+Finds true reads accounts = (first_full reads areas ≡ None) × (accounts ≡ map.empty)
+Finds false reads accounts = Reads reads accounts
 
 -- a journal that is made ends behind its first gate, and one that is opened where the disk's list ends
 abbrev pub IsJournalOf : Bool → Image → Journal → Type 0
 IsJournalOf true reads journal = journal.length ≡ 17
 IsJournalOf false reads journal = (payloads : Payloads) × Listed reads journal.area payloads journal.length
 
--- a store starts with this state, and with this journal
+-- a store starts with these accounts, and with this journal
 abbrev pub Starts : Bool → Image → Store → Type 0
-Starts is_new reads store = StartsFrom is_new reads store.accounts × IsJournalOf is_new reads store.journal
+Starts is_new reads store = Finds is_new reads store.accounts × IsJournalOf is_new reads store.journal
 
--- the folder is in order: its areas are empty where a store is to be made, and else it stands for a state
+-- the folder is in order: its areas are empty where a store is to be made, and else it can be read
 abbrev pub IsInOrder : Bool → Image → Type 0
 IsInOrder true reads = first_full reads areas ≡ None
-IsInOrder false reads = (state : Accounts) × Stands reads state
+IsInOrder false reads = (accounts : Accounts) × Reads reads accounts
 
 -- the folder is only looked at while the store begins: it is opened, or it isn't in order
 abbrev pub IsSpared : Bool → Image → Type 0
@@ -42,9 +50,9 @@ IsSpared is_new reads = (is_new ≡ false) ⊎ (IsInOrder is_new reads → ⊥)
 
 -- a store was made or opened where the folder is in order, or this is why not
 pub record Begins (is_new : Bool) (old new : Told) (result : Result Store StoreFault) : Type 0 where
-  pub kept : IfOk result (λ store. Kept new store)
+  pub kept : (state : State) → StartsFrom is_new old.reads state → IfOk result (λ store. Kept new store state)
   pub starts : IfOk result (Starts is_new old.reads)
-  pub found : (state : Accounts) → StartsFrom is_new old.reads state → IfOk result (λ store. store.accounts ≡ state)
+  pub found : (accounts : Accounts) → Finds is_new old.reads accounts → IfOk result (λ store. store.accounts ≡ accounts)
   pub refuses : (area : Area) (at : ℕ) → IsErrOf result (store.NotAJournal area at) → Refuses old.reads area at
   pub full : (area : Area) (size : ℕ) → IsErrOf result (store.NotEmpty area size)
       → first_full old.reads areas ≡ Some (area, size)
@@ -89,9 +97,9 @@ HasNoStore is_new reads ending = Unit {0}
 pub record BeginsIn (is_new : Bool) (folder : List ℕ) (old new : Told) (result : Result Store Ending) : Type 0 where
   pub opens : OnOk result (new.folders ≡ old.folders ++ folder ∷ [])
   pub at_most : (new.folders ≡ old.folders) ⊎ (new.folders ≡ old.folders ++ folder ∷ [])
-  pub kept : IfOk result (λ store. Kept new store)
+  pub kept : (state : State) → StartsFrom is_new old.reads state → IfOk result (λ store. Kept new store state)
   pub starts : IfOk result (Starts is_new old.reads)
-  pub found : (state : Accounts) → StartsFrom is_new old.reads state → IfOk result (λ store. store.accounts ≡ state)
+  pub found : (accounts : Accounts) → Finds is_new old.reads accounts → IfOk result (λ store. store.accounts ≡ accounts)
   pub why : IfErr result (HasNoStore is_new old.reads)
   -- opening changes no image, and where the folder isn't in order nothing does
   pub looks : IsSpared is_new old.reads → Looks old new

@@ -4,9 +4,12 @@ use Rattle.glacier_base.specs.Outside.{one_more, HasRisen}
 use Rattle.glacier_sigv4.specs.declared.ring.Entry.{Entry}
 use Rattle.glacier_server.specs.declared.end.ServeFault.{ServeFault}
 use Rattle.glacier_server.specs.declared.end.ServeFault.TheVariants as server
+use Rattle.glacier_store.specs.Quotas.{over_quota}
+use Rattle.glacier_store.specs.declared.quotas.OverQuota.{OverQuota as Excess}
+use Rattle.glacier_store.specs.declared.store.Store.{Store}
 use Rattle.glacier_cli.specs.declared.ending.Ending.{Ending}
-use Rattle.glacier_cli.specs.declared.ending.Ending.TheVariants.{Hashed, Served, Usage, FileFault, NoMemory, DiskFault, ListenerFault, NotAJournal, NotEmpty, JournalEnd}
-use Rattle.glacier_cli.specs.Beginning.{HasNoStore}
+use Rattle.glacier_cli.specs.declared.ending.Ending.TheVariants.{Hashed, Served, Usage, FileFault, NoMemory, DiskFault, ListenerFault, NotAJournal, NotEmpty, JournalEnd, OverQuota}
+use Rattle.glacier_cli.specs.Beginning.{HasNoStore, Starts}
 use Rattle.glacier_cli.specs.FileUse.{FileUse, GivesOne, GivesAtMost, IsHashOf}
 use Rattle.glacier_cli.specs.Forms.{Form, ServeWords, hash, serve}
 use Rattle.glacier_cli.specs.KeyUse.{HasKeys, KeysEnd}
@@ -34,6 +37,14 @@ pub record Refused (station : StationUse) (words : ServeWords) (ending : Ending)
   pub none : NoneCame station
   pub why : HasNoStore words.is_new station.before.reads ending
 
+-- the folder was opened and nothing was served, since this is the first account of its store that is over its quota
+pub record IsOver (station : StationUse) (ring : List Entry) (words : ServeWords) (over : Excess) : Type 0 where
+  pub opens : OpensNoMore station words
+  pub none : NoneCame station
+  pub store : Store
+  pub starts : Starts words.is_new station.before.reads store
+  pub first : over_quota ring store.accounts ≡ Some over
+
 -- how serving the accounts of a ring ends, from the opening of the folder on
 abbrev pub FolderEnds : StationUse → List Entry → ServeWords → Ending → Type 0
 FolderEnds station ring words (Served count) = (count ≤ words.connections) × NoFault station
@@ -54,6 +65,8 @@ FolderEnds station ring words (NotEmpty area size) = (words.is_new ≡ true) × 
     × (IsTrue station.tells → Refused station words (NotEmpty area size))
 FolderEnds station ring words (JournalEnd length) =
     NoFault station × (IsTrue station.tells → OpensAll station words × ServesTill station ring words (server.JournalEnd length))
+FolderEnds station ring words (OverQuota over) = NoFault station
+    × (IsTrue station.tells → IsOver station ring words over)
 FolderEnds station ring words ending = ⊥
 
 -- how serving ends: there is no ring and nothing happens at the station, or the key file spells a ring

@@ -5,11 +5,13 @@ use Rattle.glacier_base.specs.Outside.{HasRisen}
 use Rattle.glacier_treehash.specs.Tree.{tree_hash_of}
 use Rattle.glacier_sigv4.specs.declared.ring.Entry.{Entry}
 use Rattle.glacier_server.specs.declared.end.ServeFault.TheVariants as server
+use Rattle.glacier_store.specs.declared.quotas.OverQuota.{OverQuota}
 use Rattle.glacier_cli.specs.Beginning.{IsInOrder}
 use Rattle.glacier_cli.specs.Endings.{SinkUse, served_line}
 use Rattle.glacier_cli.specs.FileUse.{FileUse, GivesNone, GivesAtMost}
 use Rattle.glacier_cli.specs.Forms.{Form, ServeWords, serve}
 use Rattle.glacier_cli.specs.KeyUse.{HasKeys, Spells}
+use Rattle.glacier_cli.specs.Program.{IsOver}
 use Rattle.glacier_cli.specs.Serving.{ServesAt, ServesTill}
 use Rattle.glacier_cli.specs.StationUse.{StationUse, Idle}
 
@@ -45,14 +47,14 @@ HasBadLine (Some (serve words)) files = (line : ℕ) × Spells files words.keys 
 HasBadLine form files = ⊥
 
 -- `serve` at status 0, at status 3, and where nothing failed: then it did all, or memory was wanting, or the key file or
--- the folder isn't in order, or the journal had no room for an event
+-- the folder isn't in order, or the journal had no room for an event, or an account is over its quota
 pub record ServeRun (files : FileUse) (station : StationUse) (sink : SinkUse) (words : ServeWords) (status : ℕ)
     : Type 0 where
   pub printed : status ≡ 0 → IsTrue station.tells → IsTrue sink.tells
       → (ring : List Entry) × HasKeys files words.keys ring × PrintsServed station sink ring words
   pub nothing_else : status ≡ 3 → GivesAtMost files (Some words.keys) × Idle station
   pub all_well : AllWell files station sink → (status ≡ 0) ⊎ (status ≡ 4)
-      ⊎ ((status ≡ 3) × HasBadLine (Some (serve words)) files) ⊎ (status ≡ 8) ⊎ (status ≡ 10)
+      ⊎ ((status ≡ 3) × HasBadLine (Some (serve words)) files) ⊎ (status ≡ 8) ⊎ (status ≡ 10) ⊎ (status ≡ 11)
 
 -- words of no form: nothing is opened, not standard input either
 pub record UsageRun (files : FileUse) (status : ℕ) : Type 0 where
@@ -71,8 +73,15 @@ HasNoRoom (Some (serve words)) files station =
     × ((length : ℕ) × ServesTill station ring words (server.JournalEnd length))
 HasNoRoom form files station = ⊥
 
+-- an account of the folder uses more than its quota in the ring that the key file spells
+abbrev pub HasExcess : Option Form → FileUse → StationUse → Type 0
+HasExcess (Some (serve words)) files station =
+    (ring : List Entry) × HasKeys files words.keys ring × ((over : OverQuota) × IsOver station ring words over)
+HasExcess form files station = ⊥
+
 -- why a status comes: the words are none of the forms, a read failed or a line of the key file is bad, a call of the disk
--- or of the listener or a write failed, the folder isn't in order, or the journal has no room
+-- or of the listener or a write failed, the folder isn't in order, the journal has no room, or an account is over its
+-- quota
 pub record HasReason (form : Option Form) (files : FileUse) (station : StationUse) (sink : SinkUse) (status : ℕ)
     : Type 0 where
   pub usage : status ≡ 2 → form ≡ None
@@ -82,3 +91,4 @@ pub record HasReason (form : Option Form) (files : FileUse) (station : StationUs
   pub sink_fault : status ≡ 7 → HasRisen sink.before.faults sink.after.faults
   pub no_store : status ≡ 8 → IsTrue station.tells → HasNoOrder form station
   pub journal_end : status ≡ 10 → IsTrue station.tells → HasNoRoom form files station
+  pub over_quota : status ≡ 11 → IsTrue station.tells → HasExcess form files station

@@ -1,5 +1,5 @@
 -- What a run did for the connections that came to its address, and what a crash at a moment of it leaves.
-use Rattle.std.specs.Prelude.{◌≡◌, ◌⊎◌, ◌<◌, ◌≤◌, ◌+◌, false, ℕ, List, [], length}
+use Rattle.std.specs.Prelude.{◌≡◌, ◌⊎◌, ◌<◌, ◌≤◌, ◌+◌, false, ℕ, None, List, [], length}
 use Rattle.glacier_disk.specs.Image.{Image, Only, NoMore}
 use Rattle.glacier_disk.specs.Network.{Connection, sent_on}
 use Rattle.glacier_machine.specs.declared.config.Config.{Config}
@@ -8,41 +8,58 @@ use Rattle.glacier_server.specs.declared.end.ServeFault.{ServeFault}
 use Rattle.glacier_server.specs.Acts.{StopsAfter}
 use Rattle.glacier_server.specs.Serving.{Comes, ServedAll, ServedTill, BreaksLast, acts_of}
 use Rattle.glacier_server.specs.Session.{Session}
-use Rattle.glacier_store.specs.Stands.{Stands, Kept}
-use Rattle.glacier_vault.specs.Accounts.{Accounts}
+use Rattle.glacier_replay.specs.Changes.{State}
+use Rattle.glacier_replay.specs.Standing.{Stands}
+use Rattle.glacier_server.specs.Placed.{IsKept, Placed, placed_as}
+use Rattle.glacier_store.specs.Quotas.{over_quota}
 use Rattle.glacier_store.specs.declared.store.Store.{Store}
-use Rattle.glacier_cli.specs.Beginning.{IsInOrder, StartsFrom, Starts}
+use Rattle.glacier_cli.specs.Beginning.{Finds, IsInOrder, StartsFrom, Starts}
 use Rattle.glacier_cli.specs.Forms.{ServeWords}
 use Rattle.glacier_cli.specs.StationUse.{StationUse, NoneCame, OpensAll, OpensAtMost, config_of}
 
--- so many connections came to this address, and were served for the accounts of a ring, from a store on that was made or
--- opened in this folder; fewer than the most only where none is left to come, and the folder keeps the store as it is
--- after them
-pub record ServesAt (station : StationUse) (ring : List Entry) (words : ServeWords) (count : ℕ) : Type 0 where
-  pub opens : OpensAll station words
+-- the store that was made or opened in this folder, in which no account is over its quota
+pub record Holds (station : StationUse) (ring : List Entry) (words : ServeWords) : Type 0 where
   pub store : Store
   pub starts : Starts words.is_new station.before.reads store
-  pub after : Store
-  pub kept : Kept station.after after
+  pub within : over_quota ring store.accounts ≡ None
+
+-- so many connections were served for the accounts of a ring, from a store with a state on, and the folder keeps it as it
+-- is after them if it stood for that state
+pub record ServesFrom (station : StationUse) (ring : List Entry) (words : ServeWords) (from : Placed) (count : ℕ) : Type 0 where
+  pub after : Placed
+  pub kept : StartsFrom words.is_new station.before.reads from.state → IsKept station.after after
   pub came : List Connection
   pub sessions : List Session
   pub comes : Comes station.before station.after came sessions
   pub number : length came ≡ count
+  pub each : ServedAll (config_of ring words) came sessions from after
+
+-- so many connections came to this address, and were served from the store of this folder on, with each state of its
+-- accounts; fewer than the most only where none is left to come
+pub record ServesAt (station : StationUse) (ring : List Entry) (words : ServeWords) (count : ℕ) : Type 0 where
+  pub opens : OpensAll station words
+  pub holds : Holds station ring words
+  pub serves : (state : State) → holds.store.accounts ≡ state.accounts
+      → ServesFrom station ring words (placed_as holds.store state) count
   pub left : station.before.listener.to_come ≡ count + station.after.listener.to_come
-  pub each : ServedAll (config_of ring words) came sessions store after
   pub fewer : count < words.connections → station.after.listener.to_come ≡ 0
 
--- those that came before a fault, no more than the most, were served so
-pub record ServesTill (station : StationUse) (ring : List Entry) (words : ServeWords) (fault : ServeFault)
+-- those that came before a fault, no more than the most, were served from a store with a state on
+pub record TillFrom (station : StationUse) (ring : List Entry) (words : ServeWords) (fault : ServeFault) (from : Placed)
     : Type 0 where
-  pub store : Store
-  pub starts : Starts words.is_new station.before.reads store
-  pub after : Store
+  pub after : Placed
   pub came : List Connection
   pub sessions : List Session
   pub comes : Comes station.before station.after came sessions
   pub few : length came ≤ words.connections
-  pub till : ServedTill (config_of ring words) fault came sessions store after
+  pub till : ServedTill (config_of ring words) fault came sessions from after
+
+-- the same, from the store of this folder on, with each state of its accounts
+pub record ServesTill (station : StationUse) (ring : List Entry) (words : ServeWords) (fault : ServeFault)
+    : Type 0 where
+  pub holds : Holds station ring words
+  pub serves : (state : State) → holds.store.accounts ≡ state.accounts
+      → TillFrom station ring words fault (placed_as holds.store state)
 
 -- the run broke off: no connection came, or some were served till then
 pub record BreaksAt (station : StationUse) (ring : List Entry) (words : ServeWords) (fault : ServeFault) : Type 0 where
@@ -54,10 +71,10 @@ abbrev pub IsNone : List Connection → List Session → Type 0
 IsNone came sessions = (came ≡ []) × (sessions ≡ [])
 
 -- the machine served each connection in order, or each but the last, and a first part of what was due on that
-abbrev pub IsServed : Config → List Connection → List Session → Store → Type 0
-IsServed config came sessions store =
-    ((after : Store) × ServedAll config came sessions store after)
-    ⊎ ((fault : ServeFault) × BreaksLast config came sessions store fault)
+abbrev pub IsServed : Config → List Connection → List Session → Placed → Type 0
+IsServed config came sessions from =
+    ((after : Placed) × ServedAll config came sessions from after)
+    ⊎ ((fault : ServeFault) × BreaksLast config came sessions from fault)
 
 -- no connection came, and all that a crash may leave, at any moment of the run or after it, could be left before it
 pub record Spares (station : StationUse) : Type 0 where
@@ -67,26 +84,30 @@ pub record Spares (station : StationUse) : Type 0 where
   pub any_moment : (i : Image) (sent : List (List ℕ)) → station.after.left_with station.before.moment i sent
       → station.before.leaves i
 
--- THE HEADLINE of a run that serves, whatever its ending.
-pub record Headline (station : StationUse) (ring : List Entry) (words : ServeWords) : Type 0 where
+-- what a run did and what a crash left, by a state with the accounts that the folder holds
+pub record HeadlineFrom (station : StationUse) (ring : List Entry) (words : ServeWords) (state : State) : Type 0 where
   -- these connections came, and this was done on each: bytes taken, readings, events kept and bytes sent
   pub came : List Connection
   pub sessions : List Session
   pub comes : Comes station.before station.after came sessions
-  -- it is what the vault machine does for these bytes, from the state on that the folder held
+  -- it is what the vault machine does for these bytes, from this state on
   pub machine : IsNone came sessions
-      ⊎ ((store : Store) × Starts words.is_new station.before.reads store
-      × IsServed (config_of ring words) came sessions store)
-  -- What a crash at any moment left behind the first accept stands for the state after some first acts of it, and just
-  -- the bytes among those had been sent.
-  pub stop : (state : Accounts) → StartsFrom words.is_new station.before.reads state
+      ⊎ ((holds : Holds station ring words) × IsServed (config_of ring words) came sessions (placed_as holds.store state))
+  -- Where the folder stood for the state, what a crash at any moment left behind the first accept stands for the state
+  -- after some first acts of it, and just the bytes among those had been sent.
+  pub stop : StartsFrom words.is_new station.before.reads state
       → (i : Image) (sent : List (List ℕ)) → station.after.left_with station.before.moment i sent
       → (sent ≡ sent_on station.before.connections)
       ⊎ StopsAfter (sent_on station.before.connections) state (acts_of sessions) i sent
   -- so before it too, where a store was opened, and at the start only the disk as it read could be left
   pub any_moment : words.is_new ≡ false → Only station.before.reads station.before.leaves
-      → (state : Accounts) → Stands station.before.reads state
+      → Stands station.before.reads state
       → (i : Image) (sent : List (List ℕ)) → station.after.left_with station.before.moment i sent
       → StopsAfter (sent_on station.before.connections) state (acts_of sessions) i sent
+
+-- THE HEADLINE of a run that serves, whatever its ending.
+pub record Headline (station : StationUse) (ring : List Entry) (words : ServeWords) : Type 0 where
+  pub from : (state : State) → Finds words.is_new station.before.reads state.accounts
+      → HeadlineFrom station ring words state
   -- nothing changes in a folder that isn't in order
   pub spared : (IsInOrder words.is_new station.before.reads → ⊥) → Spares station

@@ -51,7 +51,7 @@ fn ending_of<R: Threads + Sync, F: Files, S: Station>(
 /// file is bad, 4 where memory was wanting, 5 where the folder couldn't be opened or a call of the
 /// disk failed, 6 where the address couldn't be listened at or no connection be accepted, 7 where
 /// the line couldn't be written, 8 where no store stands in the folder or, to make one, it isn't
-/// empty, 10 where the journal had no room for an event.
+/// empty, 10 where the journal had no room for an event, 11 where an account uses more than its quota.
 ///
 /// The forms are `hash [FILE]`, which prints the tree hash of the file or of standard input, and
 /// `serve FOLDER KEYS --listen ADDR [--region R] [--delay N] [--connections N] [--new]`, which reads

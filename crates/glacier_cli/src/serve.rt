@@ -14,6 +14,7 @@ use glacier_base::Files;
 use glacier_disk::Station;
 use glacier_server::{Config, ServeFault, serve};
 use glacier_sigv4::KeyRing;
+use glacier_store::first_over;
 use std::alloc::Global;
 
 /// How many seconds retrieval jobs take, by their tier: as many as are named, or else what Amazon's
@@ -71,6 +72,9 @@ fn serve_folder<S: Station>(
         Ok(store) => store,
         Err(ending) => return ending,
     };
+    if let Some(over) = first_over(&store.accounts, &ring) {
+        return Ending::OverQuota(over);
+    }
     if station.listen(serving.address).is_err() {
         return Ending::ListenerFault;
     }

@@ -10,6 +10,7 @@ use glacier_base::{Account, AccountMap, Memory, Moment};
 use glacier_job::is_due;
 use glacier_vault::AccountState;
 use std::alloc::Global;
+use std::collections::btree_map;
 use std::marker::Model;
 
 /// The state of each account that was ever changed.
@@ -32,6 +33,10 @@ impl Model for Accounts {
 }
 
 impl Accounts {
+    ghost use Rattle.std.specs.Prelude.{ℕ, List};
+    ghost use Rattle.std.specs.Map.Iter.{ShowsInOrder, deref_pair};
+    ghost use Rattle.glacier_vault.specs.declared.state.AccountState.{AccountState as StateOfAccount};
+
     /// No account.
     #[tactic(auto, using(crate::proofs::PutLemmas::none_lawful))]
     pub fn empty(alloc: Global) -> Accounts
@@ -66,6 +71,14 @@ impl Accounts {
         ensures { option_copied result ≡ map.get self.now account.now }
     {
         self.accounts.get(account)
+    }
+
+    /// The accounts with their states, in order.
+    pub fn iter(&self) -> btree_map::Iter<'_, Account, AccountState>
+        ensures rest { result ≡ map.entries self.now }
+        ensures runs { ShowsInOrder (deref_pair {K = List ℕ} {X = StateOfAccount}) }
+    {
+        self.accounts.iter()
     }
 
     /// The moment of an account's last event.

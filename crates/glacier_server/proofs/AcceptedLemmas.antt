@@ -152,4 +152,4 @@ module _ (old start done new : Told) {placed : Placed} (opens : JustAccepted old
       by_fault Disk y is = y
       by_fault Memory y is = y
       by_fault (JournalEnd end) y is = y
-      by_fault Accept y is = absurd (no_accept config is.store x.part.1.last is.acts is.broken)
+      by_fault Accept y is = absurd (no_accept config is.placed x.part.1.last is.acts is.broken)

@@ -5,14 +5,13 @@ use Rattle.std.proofs.Math.Seq.{take-append-add, take-append_seam}
 use Rattle.glacier_disk.specs.Told.{Told, Lawful, ByDisk}
 use Rattle.glacier_http.specs.Messages.{Message}
 use Rattle.glacier_machine.specs.Outcomes.{one}
-use Rattle.glacier_replay.specs.Changes.{after_all}
 use Rattle.glacier_machine.specs.declared.config.Config.{Config}
 use Rattle.glacier_server.specs.Acts.{Act, keep, send, sends, keeps, bytes_of, events_in}
 use Rattle.glacier_server.specs.declared.end.ServeFault.{ServeFault}
 use Rattle.glacier_server.specs.declared.end.ServeFault.TheVariants.{Disk, Memory, JournalEnd, Accept}
 use Rattle.glacier_server.specs.Events.{KeepsOutcome, KeepsFirst}
 use Rattle.glacier_server.specs.Breaking.{BrokenFor, HasBroken, NoReplyTo}
-use Rattle.glacier_server.specs.Machine.{reply, caused, happened, passed}
+use Rattle.glacier_server.specs.Machine.{after, reply, caused, happened, passed}
 use Rattle.glacier_server.specs.Out.{done, interim}
 use Rattle.glacier_server.specs.Session.{acting}
 use Rattle.glacier_server.specs.Transfer.{Transfer, SentAll, SentPart}
@@ -20,11 +19,13 @@ use Rattle.glacier_server.specs.Turns.{whole}
 use Rattle.glacier_server.specs.Does.{nothing, sending, breaking}
 use Rattle.glacier_server.proofs.ActLemmas.{bytes_of-keeps, events_in-keeps}
 use Rattle.glacier_server.proofs.EventLemmas.{done_is}
-use Rattle.glacier_server.proofs.StepLemmas.{keeps_all, keeps_some}
+use Rattle.glacier_server.proofs.StepLemmas.{keeps_all, keeps_some, left_after}
+use Rattle.glacier_server.proofs.StoreCallLemmas.{accounts_of_all}
 use Rattle.glacier_server.proofs.TransferLemmas.{says, acts_then}
-use Rattle.glacier_server.specs.Placed.{IsKept}
-use Rattle.glacier_server.specs.Placed.{Placed}
-use Rattle.glacier_vault.specs.Accounts.{AccountEvent}
+use Rattle.glacier_server.specs.Placed.{IsKept, Placed, placed_as}
+use Rattle.glacier_store.specs.Steps.{accounts_after}
+use Rattle.glacier_store.specs.declared.store.Store.{Store}
+use Rattle.glacier_vault.specs.Accounts.{AccountEvent, Accounts}
 
 module _ (config : Config) (placed : Placed) (m : Message) (r : ℕ) (close : Bool) where
   -- keeping no byte is sent
@@ -48,11 +49,15 @@ module _ (config : Config) (placed : Placed) (m : Message) (r : ℕ) (close : Bo
   -- calls of the store
   module _ {old new : Told} (law : Lawful new) (alone : ByDisk old new) where
     -- keep them
-    pub committed : {T : Type 0} (x : T × Placed) → KeepsOutcome old new placed (one config placed.state m r) (Ok x)
-        → Transfer old new (acting placed x.1 (keeps (happened config placed.state m r))) nothing
-    unfolding happened
-    committed x keeps = keeps_all law alone placed (happened config placed.state m r) keeps.any_moment x.1
-        keeps.state keeps.grew keeps.kept
+    pub committed : {T : Type 0} (x : T × Store)
+        → KeepsOutcome old new placed.store (one config placed.state.accounts m r) (Ok x)
+        → Transfer old new (acting placed (placed_as x.1 (after config placed.state m r)) (keeps (happened config placed.state m r))) nothing
+    unfolding happened after
+    committed x keeps = keeps_all law alone placed (happened config placed.state m r) (keeps.any_moment placed.state)
+        (placed_as x.1 (after config placed.state m r)) refl
+        (λ same. keeps.accounts ∙ ap (λ (a : Accounts). accounts_after a (happened config placed.state m r)) same
+        ∙ sym (accounts_of_all placed.state (happened config placed.state m r)))
+        keeps.grew (keeps.kept placed.state)
 
     -- or break the server off, behind some first ones of these
     behind : (fault : ServeFault) (first more : List AccountEvent) → happened config placed.state m r ≡ first ++ more
@@ -62,7 +67,7 @@ module _ (config : Config) (placed : Placed) (m : Message) (r : ℕ) (close : Bo
         × Transfer old new (acting placed after (take k (done config placed.state m r close))) breaking
         × BrokenFor config placed (whole m) r (take k (done config placed.state m r close)) fault
     behind fault first more is leaves broken =
-        let after = record placed { accounts = after_all placed.state first } in
+        let after = left_after law alone placed first leaves in
         let k = length (keeps first) in
         let same : take k (done config placed.state m r close) ≡ keeps first = seam first more is in (
           k,
@@ -73,17 +78,17 @@ module _ (config : Config) (placed : Placed) (m : Message) (r : ℕ) (close : Bo
         )
 
     pub broke : {T : Type 0} (fault : ServeFault) → HasBroken fault old new
-        → KeepsOutcome {T = T} old new placed (one config placed.state m r) (Err fault)
+        → KeepsOutcome {T = T} old new placed.store (one config placed.state.accounts m r) (Err fault)
         → (k : ℕ) × (after : Placed)
         × Transfer old new (acting placed after (take k (done config placed.state m r close))) breaking
         × BrokenFor config placed (whole m) r (take k (done config placed.state m r close)) fault
     unfolding happened passed caused
     broke Disk is x =
-        behind Disk (happened config placed.state m r) [] (sym (append-nil _)) x.any_moment
+        behind Disk (happened config placed.state m r) [] (sym (append-nil _)) (x.any_moment placed.state)
         (λ acts are. silent (happened config placed.state m r) acts are)
     broke Memory is x =
         behind Memory (passed config placed.state m r) (caused config placed.state m r) refl
-        (λ kept. x.memory kept refl)
+        (λ kept. x.memory placed.state kept refl)
         (λ acts are. (
           silent (passed config placed.state m r) acts are,
           (
@@ -93,7 +98,7 @@ module _ (config : Config) (placed : Placed) (m : Message) (r : ℕ) (close : Bo
           ),
         ))
     broke (JournalEnd end) is x =
-        behind (JournalEnd end) (happened config placed.state m r) [] (sym (append-nil _)) x.any_moment
+        behind (JournalEnd end) (happened config placed.state m r) [] (sym (append-nil _)) (x.any_moment placed.state)
         (λ acts are. (silent (happened config placed.state m r) acts are, x.end end refl))
     broke Accept is x = absurd is
 

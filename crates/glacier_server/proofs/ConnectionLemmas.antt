@@ -53,7 +53,7 @@ module _ {config : Config} {a : Told} {placed : Placed} where
 
   module _ {b : Told} {from : Standing} (x : SoFarLast config a b placed from) where
     leads : (t : Session) → t.before ≡ from.placed → t.before ≡ x.session.after
-    leads t starts = starts ∙ x.so_far.store
+    leads t starts = starts ∙ x.so_far.placed
 
     -- at each wait of an exchange, all was done that was due
     prompt_then : (t : Session) → t.before ≡ from.placed

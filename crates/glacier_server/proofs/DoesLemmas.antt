@@ -15,14 +15,14 @@ use Rattle.glacier_server.proofs.ActLemmas.{sent_by-append, sent_by-sends, sent_
 use Rattle.glacier_server.proofs.StopLemmas.{stops_first, stops_first_of, stops_last, sooner, later, grew_same, grew_then}
 use Rattle.glacier_server.proofs.KeptLemmas.{still_kept, stands}
 use Rattle.glacier_replay.specs.Standing.{Stands}
-use Rattle.glacier_server.specs.Placed.{IsKept}
-use Rattle.glacier_server.specs.Placed.{Placed}
+use Rattle.glacier_server.specs.Placed.{Agrees, IsKept, Placed}
 
 -- no call at all
 pub does_nothing : (s : Told) (placed : Placed) → Does s s placed placed [] nothing
 does_nothing s placed = record {
   all_sent = refl;
   after_is = refl;
+  agrees = λ same. same;
   grew = grew_same nothing placed [] refl;
   kept = λ kept. kept;
   stops = λ kept. record {
@@ -39,6 +39,7 @@ does_then {a = a} {b = b} {c = c} {s = s} {m = m} {e = e} {first = first} {more 
   all_sent = y.all_sent ∙ ap (sent_by more) x.all_sent ∙ sym (sent_by-append first more (sent_on a.connections));
   after_is = y.after_is ∙ ap (λ (k : State). after_acts k more) x.after_is
       ∙ sym (after_acts-append s.state first more);
+  agrees = λ same. y.agrees (x.agrees same);
   grew = grew_then failing s m e first more x.grew y.grew;
   kept = λ kept. y.kept (x.kept kept);
   stops = λ kept.
@@ -67,7 +68,7 @@ does_says {a = a} {b = b} {s = s} {e = e} {failing = failing} same does = subst 
 
 -- the server breaks off where nothing failed
 pub does_break : {a b : Told} {s e : Placed} {acts : List Act} → Does a b s e acts nothing → Does a b s e acts breaking
-does_break x = record { all_sent = x.all_sent; after_is = x.after_is; grew = tt; kept = λ kept. tt; stops = x.stops }
+does_break x = record { all_sent = x.all_sent; after_is = x.after_is; agrees = x.agrees; grew = tt; kept = λ kept. tt; stops = x.stops }
 
 -- a call of the network leaves the images as they are
 still : (failing : Failing) {new : Told} {placed : Placed} → IsKept new placed → StillKept failing new placed
@@ -83,6 +84,7 @@ pub does_quiet : {old new : Told} (placed : Placed) (failing : Failing) → Rest
 does_quiet {old = old} {new = new} placed failing rests time same = record {
   all_sent = same;
   after_is = refl;
+  agrees = λ same. same;
   grew = grew_same failing placed [] refl;
   kept = λ kept. still failing (still_kept old new placed rests kept);
   stops = λ kept. record {
@@ -101,6 +103,7 @@ pub does_send : {old new : Told} (placed : Placed) (failing : Failing) (bytes : 
 does_send {old = old} {new = new} placed failing bytes rests time more = record {
   all_sent = all;
   after_is = sym (after-sends placed.state bytes);
+  agrees = λ same. same;
   grew = grew_same failing placed (sends bytes) (events_in-sends bytes);
   kept = λ kept. still failing (still_kept old new placed rests kept);
   stops = λ kept. record {
@@ -131,6 +134,7 @@ pub does_accept : {old new : Told} (placed : Placed) → Rests old new
 does_accept {old = old} {new = new} placed rests time more = record {
   all_sent = more;
   after_is = refl;
+  agrees = λ same. same;
   grew = grew_same nothing placed (accept ∷ []) refl;
   kept = λ kept. still_kept old new placed rests kept;
   stops = λ kept. record {
@@ -144,12 +148,14 @@ does_accept {old = old} {new = new} placed rests time more = record {
 
 -- calls of the store, which leave the state after some first ones of the events
 pub does_keep : {old new : Told} (placed after : Placed) (events : List AccountEvent) (failing : Failing) → Lawful new
-    → ByDisk old new → after.state ≡ after_all placed.state events → StillGrew failing placed after (keeps events)
+    → ByDisk old new → after.state ≡ after_all placed.state events → (Agrees placed → Agrees after)
+    → StillGrew failing placed after (keeps events)
     → (IsKept old placed → KeepsFirst old new placed.state events)
     → (IsKept old placed → StillKept failing new after) → Does old new placed after (keeps events) failing
-does_keep {old = old} {new = new} placed after events failing law alone is grew leaves kept = record {
+does_keep {old = old} {new = new} placed after events failing law alone is same grew leaves kept = record {
   all_sent = ap sent_on alone.connections ∙ sym (sent_by-keeps events (sent_on old.connections));
   after_is = is ∙ sym (after-keeps placed.state events);
+  agrees = same;
   grew = grew;
   kept = kept;
   stops = λ was. record {
@@ -165,8 +171,8 @@ does_keep {old = old} {new = new} placed after events failing law alone is grew 
 pub ends_well : (failing : Failing) {a b : Told} {s e : Placed} {acts : List Act} → (failing ≡ breaking → ⊥)
     → Does a b s e acts failing → Does a b s e acts nothing
 ends_well nothing other x = x
-ends_well receiving other x = record { all_sent = x.all_sent; after_is = x.after_is; grew = x.grew; kept = x.kept; stops = x.stops }
-ends_well sending other x = record { all_sent = x.all_sent; after_is = x.after_is; grew = x.grew; kept = x.kept; stops = x.stops }
+ends_well receiving other x = record { all_sent = x.all_sent; after_is = x.after_is; agrees = x.agrees; grew = x.grew; kept = x.kept; stops = x.stops }
+ends_well sending other x = record { all_sent = x.all_sent; after_is = x.after_is; agrees = x.agrees; grew = x.grew; kept = x.kept; stops = x.stops }
 ends_well breaking other x = absurd (other refl)
 
 -- the connection is closed where the server broke off
@@ -176,6 +182,7 @@ pub does_close : {a b c : Told} {s e : Placed} {acts : List Act} → Does a b s 
 does_close {a = a} {s = s} {acts = acts} x rests time same = record {
   all_sent = same ∙ x.all_sent;
   after_is = x.after_is;
+  agrees = x.agrees;
   grew = tt;
   kept = λ kept. tt;
   stops = λ kept.

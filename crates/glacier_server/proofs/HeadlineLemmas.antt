@@ -15,8 +15,7 @@ use Rattle.glacier_server.specs.Serving.{ServedAll, BreaksLast, ServedTill, Serv
 use Rattle.glacier_server.specs.Session.{Session}
 use Rattle.glacier_server.proofs.AllSentLemmas.{all_sent}
 use Rattle.glacier_server.proofs.DoesLemmas.{stops_anywhere}
-use Rattle.glacier_server.specs.Placed.{IsKept}
-use Rattle.glacier_server.specs.Placed.{Placed}
+use Rattle.glacier_server.specs.Placed.{IsKept, Placed}
 
 -- all that is to be done is a first part of it
 whole : (config : Config) (s : Session) → IsWholeOut config s.taken s.readings s.before.state s.acts

@@ -35,7 +35,8 @@ use Rattle.glacier_server.proofs.ExtentLemmas.{Extends}
 use Rattle.glacier_server.proofs.RefuseLemmas.{text_is}
 use Rattle.glacier_server.proofs.SessionLemmas.{all_more, same_wait}
 use Rattle.glacier_server.proofs.TransferLemmas.{then, acts_then, says, fails_as}
-use Rattle.glacier_server.specs.Placed.{Placed}
+use Rattle.glacier_server.specs.Placed.{Placed, placed_as}
+use Rattle.glacier_store.specs.declared.store.Store.{Store}
 
 -- a good head, for which a reading was taken, and then bytes of its body
 module _ (config : Config) (from : Standing) (headers : List HeaderSpan) (spans : HeadSpans) (used left : ℕ)
@@ -133,16 +134,16 @@ module _ (config : Config) (from : Standing) (headers : List HeaderSpan) (spans 
 
         pub reply_unmade : {T : Type 0} {d : Told} (fault : ServeFault) → end ≡ end_of_good from.count spans.close
             → Lawful d → ByDisk c d → HasBroken fault c d
-            → AtFront from.unread spans kept (λ m. KeepsOutcome {T = T} c d from.placed
-            (one config from.placed.state m r) (Err fault))
+            → AtFront from.unread spans kept (λ m. KeepsOutcome {T = T} c d from.placed.store
+            (one config from.placed.state.accounts m r) (Err fault))
             → BreaksOff config from a d fault
         unfolding message text
         reply_unmade {T = T} {d = d} fault end_is law alone broken each =
             let m : Message = message in
             let close : Bool = is_some end in
             let broke = broke config from.placed m r close law alone {T = T} fault broken (at_message kept keeps (λ m.
-            KeepsOutcome {T = T} c d from.placed
-            (one config from.placed.state m r) (Err fault)) each) in
+            KeepsOutcome {T = T} c d from.placed.store
+            (one config from.placed.state.accounts m r) (Err fault)) each) in
             let k : ℕ = broke.0 in
             let after : Placed = broke.1 in record {
               session = answering from.placed after takes.got (take k text) r takes.takes.waits;
@@ -160,33 +161,33 @@ module _ (config : Config) (from : Standing) (headers : List HeaderSpan) (spans 
 
         module _ (end_is : end ≡ end_of_good from.count spans.close) (of_none : failing_at end ≡ nothing)
             (close : Bool) (closes : close ≡ is_some end) {d : Told} (law : Lawful d) (alone : ByDisk c d)
-            (reply_is : Reply × Placed) (answers : AtFront from.unread spans kept (λ m. reply_is.0 ≡
-            (one config from.placed.state m r).reply))
-            (each : AtFront from.unread spans kept (λ m. KeepsOutcome c d from.placed
-            (one config from.placed.state m r) (Ok reply_is))) where
+            (reply_is : Reply × Store) (answers : AtFront from.unread spans kept (λ m. reply_is.0 ≡
+            (one config from.placed.state.accounts m r).reply))
+            (each : AtFront from.unread spans kept (λ m. KeepsOutcome c d from.placed.store
+            (one config from.placed.state.accounts m r) (Ok reply_is))) where
           printed : text_of_reply reply_is.0 r close ≡ reply config from.placed.state message r close
           printed = text_is config from.placed.state message r close reply_is.0 (at_message kept keeps (λ m. reply_is.0 ≡
-              (one config from.placed.state m r).reply) answers)
+              (one config from.placed.state.accounts m r).reply) answers)
 
-          kept_events : KeepsOutcome c d from.placed
-              (one config from.placed.state message r) (Ok reply_is)
-          kept_events = at_message kept keeps (λ m. KeepsOutcome c d from.placed
-              (one config from.placed.state m r) (Ok reply_is)) each
+          kept_events : KeepsOutcome c d from.placed.store
+              (one config from.placed.state.accounts message r) (Ok reply_is)
+          kept_events = at_message kept keeps (λ m. KeepsOutcome c d from.placed.store
+              (one config from.placed.state.accounts m r) (Ok reply_is)) each
 
-          stored : reply_is.1.state ≡ after config from.placed.state message r
-          unfolding after happened
-          stored = kept_events.state
+          left_now : Placed
+          left_now = placed_as reply_is.1 (after config from.placed.state message r)
 
-          commits : Transfer c d (acting from.placed reply_is.1 (acts_of (happened config from.placed.state message r))) nothing
+          commits : Transfer c d (acting from.placed left_now (acts_of (happened config from.placed.state message r))) nothing
+          unfolding left_now
           commits = committed config from.placed message r close law alone reply_is kept_events
 
           -- it was sent
           pub reply_sent : {e : Told} → SentAll d e (text_of_reply reply_is.0 r close) → (to : Standing)
-              → reply_is.1 ≡ to.placed
+              → left_now ≡ to.placed
               → to.unread ≡ drop used from.unread → Exchanges config from to a e end
-          unfolding message text
+          unfolding message text left_now
           reply_sent {e = e} sent to leaves left_is =
-              let new = reply_is.1 in
+              let new = left_now in
               let x = answering from.placed new takes.got text r takes.takes.waits in record {
                 session = x;
                 starts = refl;
@@ -201,17 +202,17 @@ module _ (config : Config) (from : Standing) (headers : List HeaderSpan) (spans 
                 exchange =
                     subst (λ (l : List ℕ). IsExchange config (exchange_on from l (current e.connections).coming
                     (answering from.placed new takes.got text r takes.takes.waits)) end) (sym left_is)
-                    (answered config from headers spans used left r is extends takes.got end whole end_is new stored
+                    (answered config from headers spans used left r is extends takes.got end whole end_is new refl
                     (current e.connections).coming takes.takes.waits);
                 idle = idle takes new text;
               }
 
           -- a first part of it was sent
           pub reply_unsent : {e : Told} → SentPart d e (text_of_reply reply_is.0 r close) → (to : Standing)
-              → reply_is.1 ≡ to.placed → Exchanges config from to a e (Some SendFault)
-          unfolding message text
+              → left_now ≡ to.placed → Exchanges config from to a e (Some SendFault)
+          unfolding message text left_now
           reply_unsent {e = e} sent to leaves =
-              let new = reply_is.1 in
+              let new = left_now in
               let part = done_part config from.placed message r close new commits
               (text_of_reply reply_is.0 r close) printed sent in record {
                 session = answering from.placed new takes.got (take part.0 text) r takes.takes.waits;

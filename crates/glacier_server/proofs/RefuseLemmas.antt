@@ -26,7 +26,7 @@ use Rattle.glacier_server.specs.Placed.{Placed}
 
 -- the text of a message's reply, by what the machine answers
 pub text_is : (config : Config) (state : State) (m : Message) (r : ℕ) (close : Bool) (answer : Reply)
-    → answer ≡ (one config state m r).reply → text_of_reply answer r close ≡ reply config state m r close
+    → answer ≡ (one config state.accounts m r).reply → text_of_reply answer r close ≡ reply config state m r close
 unfolding reply
 text_is config state m r close answer is = ap (λ (a : Reply). text_of_reply a r close) is
 

@@ -16,8 +16,7 @@ use Rattle.glacier_server.proofs.ActLemmas.{bytes_of-sends, bytes_of-keeps, even
 use Rattle.glacier_server.proofs.DoesLemmas.{does_quiet, does_send, does_keep}
 use Rattle.glacier_server.specs.Events.{KeepsFirst}
 use Rattle.glacier_server.specs.Rooms.{GrewBy}
-use Rattle.glacier_server.specs.Placed.{IsKept}
-use Rattle.glacier_server.specs.Placed.{Placed}
+use Rattle.glacier_server.specs.Placed.{Agrees, IsKept, Placed}
 
 pub current-snoc : (before : List Connection) (c : Connection) → current (before ++ c ∷ []) ≡ c
 current-snoc [] c = refl
@@ -189,19 +188,28 @@ module _ {old new : Told} (law : Lawful new) (alone : ByDisk old new) (placed : 
   no_reading : new.readings ≡ old.readings ++ []
   no_reading = alone.readings ∙ sym (append-nil _)
 
-  pub keeps_all : (after : Placed) → after.state ≡ after_all placed.state events
+  pub keeps_all : (after : Placed) → after.state ≡ after_all placed.state events → (Agrees placed → Agrees after)
       → GrewBy placed.store.journal.length after.store.journal.length events → (IsKept old placed → IsKept new after)
       → Transfer old new (acting placed after (acts_of events)) nothing
-  keeps_all after is grew kept =
+  keeps_all after is same grew kept =
       untouched (acting placed after (acts_of events)) nothing (λ c. (refl, refl)) refl (bytes_of-keeps events) refl
-      (does_keep placed after events nothing law alone is
+      (does_keep placed after events nothing law alone is same
       (subst (λ (l : List AccountEvent). GrewBy placed.store.journal.length after.store.journal.length l) (sym
       (events_in-keeps events)) grew)
       leaves kept) no_reading alone.connections
 
-  pub keeps_some : Transfer old new (acting placed (record placed { accounts = after_all placed.state events })
-      (acts_of events)) breaking
+  -- the store that is given up then, with the accounts after them
+  pub left_after : Placed
+  left_after =
+      let state = after_all placed.state events in
+      record {
+        store = record { accounts = state.accounts; area = placed.store.area; journal = placed.store.journal };
+        state = state;
+      }
+
+  pub keeps_some : Transfer old new (acting placed left_after (acts_of events)) breaking
+  unfolding left_after
   keeps_some =
-      let after = record placed { accounts = after_all placed.state events } in
+      let after = left_after in
       untouched (acting placed after (acts_of events)) breaking (λ c. (refl, refl)) refl (bytes_of-keeps events) refl
-      (does_keep placed after events breaking law alone refl tt leaves (λ kept. tt)) no_reading alone.connections
+      (does_keep placed after events breaking law alone refl (λ same. refl) tt leaves (λ kept. tt)) no_reading alone.connections

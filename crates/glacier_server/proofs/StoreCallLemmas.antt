@@ -12,7 +12,7 @@ use Rattle.glacier_machine.specs.declared.config.Config.{Config}
 use Rattle.glacier_machine.specs.Moments.{after_moment}
 use Rattle.glacier_machine.specs.AccountSteps.{asked_step}
 use Rattle.glacier_machine.specs.Outcomes.{events_of, moment_of, rules_of, step_outcome}
-use Rattle.glacier_replay.specs.Changes.{State, after_all}
+use Rattle.glacier_replay.specs.Changes.{State, accounts_after as after_one, after_account_event, after_all, change_in}
 use Rattle.glacier_replay.specs.Standing.{Stands}
 use Rattle.glacier_vault.specs.Accounts.{Accounts, AccountEvent, account_in}
 use Rattle.glacier_vault.specs.declared.state.AccountState.{AccountState}
@@ -173,13 +173,14 @@ module _ {T : Type 0} {old new : Told} (store : Store) (account : List ℕ) (m :
 pub accounts_append : (accounts : Accounts) (first more : List AccountEvent)
     → accounts_after accounts (first ++ more) ≡ accounts_after (accounts_after accounts first) more
 accounts_append accounts [] more = refl
-accounts_append accounts (h ∷ first) more = accounts_append _ first more
+accounts_append accounts (h ∷ first) more =
+    accounts_append (after_one accounts h.account (change_in accounts h.account h.moment h.event)) first more
 
 -- and those of a state
 pub accounts_of_all : (state : State) (events : List AccountEvent)
     → (after_all state events).accounts ≡ accounts_after state.accounts events
 accounts_of_all state [] = refl
-accounts_of_all state (h ∷ more) = accounts_of_all _ more
+accounts_of_all state (h ∷ more) = accounts_of_all (after_account_event state h) more
 
 -- time passed, and then something was done
 module _ {T : Type 0} {old mid new : Told} (store one : Store) (passed done : List AccountEvent)

@@ -64,10 +64,18 @@ module _ (old new : Told) (looks : Looks old new) where
           rest = rest;
         }
 
+    found : (accounts : Accounts) → Reads old.reads accounts → h.accounts ≡ accounts
+    found accounts reads =
+        let lists = one_list old.reads reads.area h.journal.area reads.payloads payloads reads.end h.journal.length reads.listed listed in
+        let is : Makes payloads accounts reads.layouts = subst (λ (l : Payloads). Makes l accounts reads.layouts) lists.1 reads.made in
+        let same : ◌≡◌ {A = Holdings} (record { accounts = h.accounts; layouts = h.area.blobs }) (record { accounts = accounts; layouts = reads.layouts }) = leads_one payloads nothing _ _ made is in
+        ap (λ (x : Holdings). x.accounts) same
+
     pub opened : Opens old new (Ok h)
     opened = record {
       reads = record { payloads = payloads; listed = listed; made = made };
       refuses = λ area at is. absurd (cc is);
+      found = found;
       kept = kept;
       not_refused = λ accounts reads. tt;
       looks = looks;
@@ -81,6 +89,7 @@ module _ (old new : Told) (looks : Looks old new) where
         let area_is : area ≡ other = cc is in
         let at_is : at ≡ place = cc is in
         subst (λ (a : Area). Refuses old.reads a place) area_is (subst (λ (n : ℕ). Refuses old.reads area n) at_is refuses);
+    found = λ accounts reads. tt;
     kept = λ state stands. tt;
     not_refused = λ accounts reads. absurd (refused_reads_none old.reads area at accounts refuses reads);
     looks = looks;
@@ -91,6 +100,7 @@ module _ (old new : Told) (looks : Looks old new) where
   gave_up why cause = record {
     reads = tt;
     refuses = λ area at is. absurd (⊎_elim (λ e. cc (is, e)) (λ e. cc (is, e)) cause);
+    found = λ accounts reads. tt;
     kept = λ state stands. tt;
     not_refused = λ accounts reads. cause;
     looks = looks;

@@ -55,6 +55,7 @@ pub record Creates (old new : Told) (result : Result Store StoreFault) : Type 0 
 pub record Opens (old new : Told) (result : Result Store StoreFault) : Type 0 where
   pub reads : IfOk result (λ store. ReadsAs old.reads store)
   pub refuses : (area : Area) (at : ℕ) → IsErrOf result (fault.NotAJournal area at) → Refuses old.reads area at
+  pub found : (accounts : Accounts) → Reads old.reads accounts → IfOk result (λ store. store.accounts ≡ accounts)
   -- a state that the disk stands for is the one that is kept
   pub kept : (state : State) → Stands old.reads state → IfOk result (λ store. Kept new store state)
   -- a disk that can be read is opened, or not for want of memory or by a fault of it

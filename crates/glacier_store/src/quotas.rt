@@ -1,10 +1,10 @@
 // Quotas of accounts.
 ghost use Rattle.std.specs.Prelude.{◌≡◌};
-ghost use Rattle.glacier_vault.specs.Accounts.{account_in};
-ghost use Rattle.glacier_store.specs.Quotas as specs;
+ghost use Rattle.glacier_store.specs.Quotas.{over_quota};
 
 use glacier_base::Account;
 use glacier_replay::Accounts;
+use glacier_sigv4::KeyRing;
 
 /// An account that uses more than its quota. Both are in blocks.
 #[derive(Clone, Copy)]
@@ -14,27 +14,18 @@ pub struct OverQuota {
     pub quota: u64,
 }
 
-/// What an account uses.
-fn used_by(accounts: &Accounts, account: &Account) -> u64
-    ensures { result ≡ (account_in accounts.now account.now).used }
+/// The first of all accounts, in their order, that uses more than its quota in a ring. It takes no
+/// memory.
+pub fn first_over(accounts: &Accounts, ring: &KeyRing) -> Option<OverQuota>
+    ensures { result ≡ over_quota ring.now accounts.now }
 {
-    match accounts.get(account) {
-        Some(state) => state.used,
-        None => 0,
-    }
-}
-
-/// The first of these accounts, each with its quota, that uses more than that. It takes no memory.
-pub fn first_over(accounts: &Accounts, quotas: &[(Account, u64)]) -> Option<OverQuota>
-    ensures { result ≡ specs.first_over accounts.now quotas.now }
-{
-    for entry in quotas {
-        let used = used_by(accounts, &entry.0);
-        if used > entry.1 {
+    for (account, state) in accounts.iter() {
+        let quota = ring.quota(*account);
+        if state.used > quota {
             return Some(OverQuota {
-                account: entry.0,
-                used,
-                quota: entry.1,
+                account: *account,
+                used: state.used,
+                quota,
             });
         }
     }
