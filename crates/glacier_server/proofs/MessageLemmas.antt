@@ -1,6 +1,7 @@
 -- The calls for a message with a good head make an exchange.
 use Rattle.std.proofs.Common.{◌≡◌, ℕ, ◌+◌, ◌-◌, ◌<◌, Bool, List, [], ◌++◌, length, take, drop, Some, Ok, Err, sym, ap, subst, refl, ◌∙◌, arith, append-nil}
-use Rattle.std.specs.Prelude.{Option}
+use Rattle.std.specs.Prelude.{Option, Result}
+use Rattle.glacier_vault.specs.Accounts.{Accounts}
 use Rattle.std.specs.Option.{is_some}
 use Rattle.httparse.specs.declared.spans.HeaderSpan.{HeaderSpan}
 use Rattle.glacier_disk.specs.Network.{Wait, wait_of}
@@ -37,6 +38,20 @@ use Rattle.glacier_server.proofs.SessionLemmas.{all_more, same_wait}
 use Rattle.glacier_server.proofs.TransferLemmas.{then, acts_then, says, fails_as}
 use Rattle.glacier_server.specs.Placed.{Placed, placed_as}
 use Rattle.glacier_store.specs.declared.store.Store.{Store}
+
+-- what holds of the outcome by the accounts of a store does so by those of its state
+pub keeps_by : {T : Type 0} {a b : Told} {config : Config} {unread kept : List ℕ} {spans : HeadSpans} {r : ℕ} (store : Store)
+    (result : Result (T × Store) ServeFault) {was is : Accounts} → was ≡ is
+    → AtFront unread spans kept (λ m. KeepsOutcome a b store (one config was m r) result)
+    → AtFront unread spans kept (λ m. KeepsOutcome a b store (one config is m r) result)
+keeps_by {a = a} {b = b} {config = config} {unread = unread} {kept = kept} {spans = spans} {r = r} store result same each =
+    subst (λ (s : Accounts). AtFront unread spans kept (λ m. KeepsOutcome a b store (one config s m r) result)) same each
+
+pub answers_by : {config : Config} {unread kept : List ℕ} {spans : HeadSpans} {r : ℕ} (answer : Reply) {was is : Accounts}
+    → was ≡ is → AtFront unread spans kept (λ m. answer ≡ (one config was m r).reply)
+    → AtFront unread spans kept (λ m. answer ≡ (one config is m r).reply)
+answers_by {config = config} {unread = unread} {kept = kept} {spans = spans} {r = r} answer same each =
+    subst (λ (s : Accounts). AtFront unread spans kept (λ m. answer ≡ (one config s m r).reply)) same each
 
 -- a good head, for which a reading was taken, and then bytes of its body
 module _ (config : Config) (from : Standing) (headers : List HeaderSpan) (spans : HeadSpans) (used left : ℕ)

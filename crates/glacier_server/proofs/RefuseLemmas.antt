@@ -49,7 +49,7 @@ module _ (config : Config) {r : ℕ} {cause : BadHead} {a b : Told} (read : (pla
     idle = All-nil _;
   }
 
-  module _ (answer : Reply) (is : answer ≡ (one config from.placed.state (Bad cause) r).reply) where
+  module _ (answer : Reply) (is : answer ≡ (one config from.placed.state.accounts (Bad cause) r).reply) where
     same : text_of_reply answer r true ≡ reply config from.placed.state (Bad cause) r true
     same = text_is config from.placed.state (Bad cause) r true answer is
 

@@ -1,5 +1,6 @@
 -- What one call does on the last connection.
 use Rattle.std.proofs.Common.{◌≡◌, ℕ, List, [], ◌∷◌, ◌++◌, length, take, refl, sym, ap, subst, ◌∙◌, arith, append-nil}
+use Rattle.std.specs.FinMap as map
 use Rattle.std.specs.Prelude.{Result, Ok, Err}
 use Rattle.std.proofs.lemmas.List.Elements.{All-nil, All-cons}
 use Rattle.glacier_disk.specs.Calls.{ReceiveCall, Receives, SendCall, NowCall, SendsAll, SendsFirst}
@@ -15,6 +16,7 @@ use Rattle.glacier_server.specs.Does.{Does, Failing, nothing, receiving, sending
 use Rattle.glacier_server.proofs.ActLemmas.{bytes_of-sends, bytes_of-keeps, events_in-keeps}
 use Rattle.glacier_server.proofs.DoesLemmas.{does_quiet, does_send, does_keep}
 use Rattle.glacier_server.specs.Events.{KeepsFirst}
+use Rattle.glacier_store.proofs.OpenLemmas.{none_drawn}
 use Rattle.glacier_server.specs.Rooms.{GrewBy}
 use Rattle.glacier_server.specs.Placed.{Agrees, IsKept, Placed}
 
@@ -203,7 +205,12 @@ module _ {old new : Told} (law : Lawful new) (alone : ByDisk old new) (placed : 
   left_after =
       let state = after_all placed.state events in
       record {
-        store = record { accounts = state.accounts; area = placed.store.area; journal = placed.store.journal };
+        store = record {
+          accounts = state.accounts;
+          area = record { free = []; blobs = map.empty };
+          journal = placed.store.journal;
+          drawn = none_drawn state.accounts map.empty refl;
+        };
         state = state;
       }
 

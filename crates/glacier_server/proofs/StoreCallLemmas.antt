@@ -1,6 +1,9 @@
 -- The two calls of the store for a request: time passes, and then its action is done.
-use Rattle.std.proofs.Common.{◌≡◌, ◌⊎◌, ⊎_elim, ℕ, ◌+◌, ◌^◌, ◌<◌, List, [], ◌∷◌, ◌++◌, length, take, Option, Some, None, Result, Ok, Err, refl, sym, ap, subst, ◌∙◌, arith, append-nil, append_assoc}
+use Rattle.std.proofs.Common.{◌≡◌, ◌⊎◌, ⊎_elim, ℕ, ◌+◌, ◌^◌, ◌<◌, ◌≤◌, Bool, true, false, cond, List, [], ◌∷◌, ◌++◌, length, take, Option, Some, None, Result, Ok, Err, refl, sym, ap, subst, ◌∙◌, arith, append-nil, append_assoc}
+use Rattle.std.specs.Cmp.Lexicographic.{nat_list_cmp_total}
 use Rattle.std.specs.Prelude.{min}
+use Rattle.std.specs.Cmp.{eq_by_cmp_equiv}
+use Rattle.std.proofs.lemmas.Bool.{le-leb}
 use Rattle.std.proofs.lemmas.List.{take_all, take_min, take-append-le}
 use Rattle.std.proofs.lemmas.Result.{IfOk-weaker}
 use Rattle.std.proofs.Math.Seq.{take-append-add}
@@ -16,7 +19,11 @@ use Rattle.glacier_replay.specs.Changes.{State, accounts_after as after_one, aft
 use Rattle.glacier_replay.specs.Standing.{Stands}
 use Rattle.glacier_vault.specs.Accounts.{Accounts, AccountEvent, account_in}
 use Rattle.glacier_vault.specs.declared.state.AccountState.{AccountState}
+use Rattle.glacier_job.specs.Pass.{freed, pass, pass_is_event}
+use Rattle.glacier_replay.proofs.SettledLemmas.{account_after}
+use Rattle.glacier_vault.specs.Rows.{no_change}
 use Rattle.glacier_vault.specs.declared.event.Event.{Event}
+use Rattle.glacier_vault.specs.declared.event.Event.TheVariants.{Pass}
 use Rattle.glacier_vault.specs.declared.rules.Rules.{Rules}
 use Rattle.glacier_server.specs.declared.end.ServeFault.{ServeFault}
 use Rattle.glacier_server.specs.declared.end.ServeFault.TheVariants.{Disk, Memory, JournalEnd}
@@ -26,7 +33,7 @@ use Rattle.glacier_server.specs.Machine.{asked_outcome, told_of}
 use Rattle.glacier_server.proofs.ActLemmas.{after_append}
 use Rattle.glacier_server.proofs.RoomLemmas.{grew_behind, grew_room, no_room_for}
 use Rattle.glacier_store.specs.Kept.{Changes, Kept, Stays}
-use Rattle.glacier_store.specs.Steps.{Advances, Grows, accounts_after, room_of}
+use Rattle.glacier_store.specs.Steps.{Advances, Grows, accounts_after, room_of, time_events}
 use Rattle.glacier_store.specs.declared.fault.StoreFault.{StoreFault}
 use Rattle.glacier_store.specs.declared.fault.StoreFault.TheVariants as store_fault
 use Rattle.glacier_store.specs.declared.store.Store.{Store}
@@ -213,6 +220,21 @@ module _ {T : Type 0} {old mid new : Told} (store one : Store) (passed done : Li
           full = end.full;
         };
   }
+
+-- time makes of an account what the moment does
+pub passed_account : (before : Accounts) (k : List ℕ) (m : ℕ) → (account_in before k).last ≤ m
+    → account_in (accounts_after before (time_events k m before)) k ≡ after_moment m (account_in before k)
+passed_account before k m time = at (pass_is_event m (account_in before k))
+  where
+    at : (b : Bool)
+        → account_in (accounts_after before (events_of k m (cond b (record { event = cond b (Some Pass) None; freed = freed m (account_in before k) }) no_change).event)) k
+        ≡ cond b (pass m (account_in before k)) (account_in before k)
+    at true =
+        ap (λ (fits : Bool). account_in (after_one before k (cond fits (Some (pass m (account_in before k), freed m (account_in before k))) None)) k)
+        (le-leb (account_in before k).last m time)
+        ∙ account_after before k (pass m (account_in before k)) k
+        ∙ ap (λ (b : Bool). cond b (pass m (account_in before k)) (account_in before k)) ((eq_by_cmp_equiv nat_list_cmp_total).refl k)
+    at false = refl
 
 -- the outcome of a request is that of what is asked once time has passed
 pub asked_behind : (config : Config) (rules : Rules) (request : Request) (reading m : ℕ) (accounts one : Accounts)

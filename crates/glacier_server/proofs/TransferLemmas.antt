@@ -14,6 +14,8 @@ use Rattle.glacier_server.proofs.ActLemmas.{bytes_of-append}
 use Rattle.glacier_server.proofs.DoesLemmas.{does_nothing, does_then, does_break}
 use Rattle.glacier_server.proofs.SessionLemmas.{joined, all_more, same_wait}
 use Rattle.glacier_server.specs.Placed.{Placed}
+use Rattle.glacier_store.proofs.OpenLemmas.{none_drawn}
+use Rattle.glacier_store.specs.Calls.{no_state}
 
 -- no call at all
 pub stays : (s : Told) (placed : Placed) → Transfer s s (taking placed [] []) nothing
@@ -112,7 +114,15 @@ takes_none s Holds = record {
 
 -- a store of no account
 unkept : Placed
-unkept = record { accounts = map.empty; journal = record { area = Lead; length = 17; enough = omega arith; within = omega arith } }
+unkept = record {
+  store = record {
+    accounts = map.empty;
+    area = record { free = []; blobs = map.empty };
+    journal = record { area = Lead; length = 17; enough = omega arith; within = omega arith };
+    drawn = none_drawn map.empty map.empty refl;
+  };
+  state = no_state;
+}
 
 module _ {a b c : Told} {failing : Failing} (got more : List ℕ) (P Q : List ℕ
     → Type 0) (first : Takes a b got P nothing) (second : Takes b c more Q failing) (leads_to : (l : List ℕ) → Q l

@@ -2,7 +2,7 @@
 ghost use Rattle.glacier_vault.specs.Lawful.{IsLawful};
 
 use glacier_base::{Moment, VaultName};
-use glacier_machine::replay;
+use glacier_replay::replay;
 use glacier_vault::{AccountState, Event};
 use std::alloc::Global;
 

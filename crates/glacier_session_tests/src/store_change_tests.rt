@@ -32,8 +32,10 @@ fn do_one<D: Disk>(
     ensures { (D.told disk.new).opened ≡ true }
 {
     let action = action_of(is_put, subject.vault);
-    match store.pass(disk, &subject.rules.account, subject.reading) {
-        Ok((store, m)) => match store.apply(alloc, disk, &subject.rules, m, &action) {
+    let account = subject.rules.account;
+    let m = store.accounts.last(&account).later(subject.reading);
+    match store.pass(alloc, disk, &account, m) {
+        Ok(store) => match store.apply(alloc, disk, &subject.rules, m, &action) {
             Ok((store, answer)) => Ok((store, answer.reply.status)),
             Err(fault) => Err(fault),
         },

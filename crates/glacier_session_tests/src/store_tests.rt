@@ -54,7 +54,7 @@ pub fn row_subject() -> Option<Subject> {
 
 /// Whether the vault is there; None where its account isn't.
 fn vault_in(store: &Store, subject: &Subject) -> Option<bool> {
-    match store.view(&subject.rules.account) {
+    match store.accounts.get(&subject.rules.account) {
         Some(account) => Some(account.vaults.contains(&subject.vault)),
         None => None,
     }

@@ -1,4 +1,5 @@
 use Rattle.std.proofs.Common.{subst, ℕ, arith, refl, inl, inr, ◌∙◌}
+use Rattle.glacier_server.specs.Placed.{placed_as}
 use Rattle.glacier_server.specs.Serving.{Serves}
 use Rattle.glacier_server.proofs.HeadlineLemmas.{serves_headline, breaks_headline}
 use Rattle.glacier_server.proofs.KeepLemmas.{on_self, on_then, stopped_then}
@@ -6,12 +7,12 @@ use Rattle.glacier_server.proofs.ServingLemmas.{serves_nothing, serves_then, bre
 use Rattle.glacier_server.proofs.server.serve.Goals as goal
 
 pub returns-in-Err-clause-broken : goal.returns-in-Err-clause-broken
-returns-in-Err-clause-broken g c t = inr (refl, refl, refl)
+returns-in-Err-clause-broken g c t state same = inr (refl, refl, refl)
 
 pub connections-init : goal.connections-init
 connections-init g c = record {
   most = omega arith;
-  served = λ t. serves_nothing _ _;
+  served = λ t state same. (state, serves_nothing _ (placed_as c.args.store state));
   kept = on_self _ c.requires.free c.requires.«open» c.requires.listening;
   faults = (refl, refl);
 }
@@ -19,8 +20,10 @@ connections-init g c = record {
 pub connections-preserved : goal.connections-preserved
 connections-preserved g c = record {
   most = omega (arith, c.connections-test.true);
-  served = λ t. serves_then (c.connections.invariant.served t) (rw c.in-Ok-true-default.field-0-0-test at
-      (c.in-Ok-true-default.ensures.served t));
+  served = λ t state same.
+      let before = c.connections.invariant.served t state same in
+      let next = c.in-Ok-true-default.ensures.served t before.0 (before.1.does.agrees same) in
+      (next.0, serves_then before.1 (rw c.in-Ok-true-default.field-0-0-test at next.1));
   kept = on_then c.connections.invariant.kept c.serve_next.ensures.kept;
   faults = (
     c.in-Ok-true-default.ensures.fault.0 ∙ c.connections.invariant.faults.0,
@@ -29,33 +32,42 @@ connections-preserved g c = record {
 }
 
 pub returns-in-Ok-false-default-clause-served : goal.returns-in-Ok-false-default-clause-served
-returns-in-Ok-false-default-clause-served g c t =
-    subst (λ (n : ℕ). Serves c.args.config.now (g.S.Disk.told c.args.station.now)
-    (g.S.Disk.told c.serve_next.new.station) c.args.store c.in-Ok-false-default.after n) (omega arith)
-    (serves_then (c.connections.invariant.served t) (rw c.in-Ok-false-default.field-0-0-test at
-    (c.in-Ok-false-default.ensures.served t)))
+returns-in-Ok-false-default-clause-served g c t state same =
+    let before = c.connections.invariant.served t state same in
+    let next = c.in-Ok-false-default.ensures.served t before.0 (before.1.does.agrees same) in (
+      next.0,
+      subst (λ (n : ℕ). Serves c.args.config.now (g.S.Disk.told c.args.station.now) (g.S.Disk.told c.serve_next.new.station)
+          (placed_as c.args.store state) (placed_as c.in-Ok-false-default.after next.0) n) (omega arith)
+          (serves_then before.1 (rw c.in-Ok-false-default.field-0-0-test at next.1)),
+    )
 
 pub returns-in-Err-serve_next-clause-broken : goal.returns-in-Err-serve_next-clause-broken
-returns-in-Err-serve_next-clause-broken g c t = inl (breaks_then (omega (arith, c.connections-test.true))
-    (c.connections.invariant.served t) (c.in-Err-serve_next.ensures.broken t))
+returns-in-Err-serve_next-clause-broken g c t state same =
+    let before = c.connections.invariant.served t state same in
+    inl (breaks_then (omega (arith, c.connections-test.true)) before.1
+    (c.in-Err-serve_next.ensures.broken t before.0 (before.1.does.agrees same)))
 
 pub returns-in-Err-clause-headline : goal.returns-in-Err-clause-headline
-returns-in-Err-clause-headline g c t kept =
-    serves_headline (g.met.S.Disk.lawful t c.args.station.now) kept (serves_nothing _ c.args.store)
+returns-in-Err-clause-headline g c t state kept =
+    serves_headline (g.met.S.Disk.lawful t c.args.station.now) kept (serves_nothing _ (placed_as c.args.store state))
 
 pub returns-in-Ok-false-default-clause-headline : goal.returns-in-Ok-false-default-clause-headline
-returns-in-Ok-false-default-clause-headline g c t kept =
-    serves_headline (g.met.S.Disk.lawful t c.args.station.now) kept (serves_then (c.connections.invariant.served t)
-    (rw c.in-Ok-false-default.field-0-0-test at (c.in-Ok-false-default.ensures.served t)))
+returns-in-Ok-false-default-clause-headline g c t state kept =
+    let before = c.connections.invariant.served t state kept.accounts in
+    let next = c.in-Ok-false-default.ensures.served t before.0 (before.1.does.agrees kept.accounts) in
+    serves_headline (g.met.S.Disk.lawful t c.args.station.now) kept
+    (serves_then before.1 (rw c.in-Ok-false-default.field-0-0-test at next.1))
 
 pub returns-in-Err-serve_next-clause-headline : goal.returns-in-Err-serve_next-clause-headline
-returns-in-Err-serve_next-clause-headline g c t kept =
-    breaks_headline (g.met.S.Disk.lawful t c.args.station.now) kept {most = c.args.connections} (breaks_then (omega
-    (arith, c.connections-test.true)) (c.connections.invariant.served t) (c.in-Err-serve_next.ensures.broken t))
+returns-in-Err-serve_next-clause-headline g c t state kept =
+    let before = c.connections.invariant.served t state kept.accounts in
+    breaks_headline (g.met.S.Disk.lawful t c.args.station.now) kept {most = c.args.connections}
+    (breaks_then (omega (arith, c.connections-test.true)) before.1
+    (c.in-Err-serve_next.ensures.broken t before.0 (before.1.does.agrees kept.accounts)))
 
 pub returns-clause-headline : goal.returns-clause-headline
-returns-clause-headline g c t kept =
-    serves_headline (g.met.S.Disk.lawful t c.args.station.now) kept (c.connections.invariant.served t)
+returns-clause-headline g c t state kept =
+    serves_headline (g.met.S.Disk.lawful t c.args.station.now) kept (c.connections.invariant.served t state kept.accounts).1
 
 pub returns-in-Ok-false-default-clause-fault : goal.returns-in-Ok-false-default-clause-fault
 returns-in-Ok-false-default-clause-fault g c = (

@@ -13,32 +13,33 @@ answer-requires-clause-small g c =
     (subst (λ (f : HeadStep). IsStep c.next_head.new.unread c.next_head.new.room f) c.in-Ok-Head.field-0-is c.in-Ok-Head.ensures.found)
 
 pub returns-in-Ok-clause-exchange : goal.returns-in-Ok-clause-exchange
-returns-in-Ok-clause-exchange g c t = exchanges_behind (c.in-Ok-Head.ensures.takes t) (c.in-Ok.ensures.exchange t)
+returns-in-Ok-clause-exchange g c t state same =
+    let answered = c.in-Ok.ensures.exchange t state same in (answered.0, exchanges_behind (c.in-Ok-Head.ensures.takes t) answered.1)
 
 pub returns-in-Err-answer-clause-broken : goal.returns-in-Err-answer-clause-broken
-returns-in-Err-answer-clause-broken g c t = breaks_behind (c.in-Ok-Head.ensures.takes t)
-    (c.in-Err-answer.ensures.broken t)
+returns-in-Err-answer-clause-broken g c t state same = breaks_behind (c.in-Ok-Head.ensures.takes t)
+    (c.in-Err-answer.ensures.broken t state same)
 
 pub returns-in-Ok-refuse-clause-exchange : goal.returns-in-Ok-refuse-clause-exchange
-returns-in-Ok-refuse-clause-exchange g c t =
+returns-in-Ok-refuse-clause-exchange g c t state same =
     let bad : IsStep c.next_head.new.unread c.next_head.new.room (step.Bad c.in-Ok-Bad.cause) =
     subst (λ (f : HeadStep). IsStep c.next_head.new.unread c.next_head.new.room f) c.in-Ok-Bad.field-0-is c.in-Ok-Bad.ensures.found in
-    exchanges_behind (c.in-Ok-Bad.ensures.takes t) (c.in-Ok-refuse.ensures.exchange t _ (refl, bad.0, bad.1))
+    (state, exchanges_behind (c.in-Ok-Bad.ensures.takes t) (c.in-Ok-refuse.ensures.exchange t _ (refl, bad.0, bad.1)))
 
 pub returns-in-Err-refuse-clause-broken : goal.returns-in-Err-refuse-clause-broken
-returns-in-Err-refuse-clause-broken g c t =
+returns-in-Err-refuse-clause-broken g c t state same =
     let bad : IsStep c.next_head.new.unread c.next_head.new.room (step.Bad c.in-Ok-Bad.cause) =
     subst (λ (f : HeadStep). IsStep c.next_head.new.unread c.next_head.new.room f) c.in-Ok-Bad.field-0-is c.in-Ok-Bad.ensures.found in
     breaks_behind (c.in-Ok-Bad.ensures.takes t) (c.in-Err-refuse.ensures.broken t _ (refl, bad.0, bad.1))
 
 pub returns-in-Ok-Need-clause-exchange : goal.returns-in-Ok-Need-clause-exchange
-returns-in-Ok-Need-clause-exchange g c t =
-    ends_behind c.ended.result c.ended.ensures.of_none (c.in-Ok-Need.ensures.takes t) c.ended.ensures.end
+returns-in-Ok-Need-clause-exchange g c t state same =
+    (state, ends_behind c.ended.result c.ended.ensures.of_none (c.in-Ok-Need.ensures.takes t) c.ended.ensures.end
     (subst (λ (f : HeadStep). IsStep c.next_head.new.unread c.next_head.new.room f) c.in-Ok-Need.field-0-is c.in-Ok-Need.ensures.found)
-    (c.next_head.ensures.end t (c.in-Ok-Need.is ∙ ap (λ (f : HeadStep). Ok f) c.in-Ok-Need.field-0-is)) _ refl
+    (c.next_head.ensures.end t (c.in-Ok-Need.is ∙ ap (λ (f : HeadStep). Ok f) c.in-Ok-Need.field-0-is)) _ refl)
 
 pub returns-in-Err-clause-exchange : goal.returns-in-Err-clause-exchange
-returns-in-Err-clause-exchange g c t = fails_behind (c.in-Err.ensures.takes t) c.in-Err.ensures.need _ refl
+returns-in-Err-clause-exchange g c t state same = (state, fails_behind (c.in-Err.ensures.takes t) c.in-Err.ensures.need _ refl)
 
 pub returns-in-Err-refuse-clause-fault : goal.returns-in-Err-refuse-clause-fault
 returns-in-Err-refuse-clause-fault g c =

@@ -18,10 +18,10 @@ pub returns-in-Ok-clause-keeps : goal.returns-in-Ok-clause-keeps
 returns-in-Ok-clause-keeps g c t =
     action_done c.args.store c.args.rules.now.account c.args.m
     (step_of c.args.rules.now c.args.m c.args.action.now (account_in c.args.store.accounts c.args.rules.now.account)).answer.change.event
-    c.in-Ok.store c.in-Ok.answer c.in-Ok.answer.reply (c.in-Ok.ensures.commits t) c.in-Ok.ensures.accounts c.in-Ok.ensures.grows
+    c.in-Ok.store c.in-Ok.answer.reply (c.in-Ok.ensures.advances t) c.in-Ok.ensures.accounts c.in-Ok.ensures.grows
 
 pub returns-in-Err-clause-keeps : goal.returns-in-Err-clause-keeps
 returns-in-Err-clause-keeps g c t =
     action_broken c.args.store c.args.rules.now.account c.args.m
     (step_of c.args.rules.now c.args.m c.args.action.now (account_in c.args.store.accounts c.args.rules.now.account)).answer.change.event
-    c.in-Err.fault c.fault_of.result c.fault_of.ensures (c.in-Err.ensures.commits t) c.in-Err.ensures.grows
+    c.in-Err.fault c.fault_of.result c.fault_of.ensures (c.in-Err.ensures.advances t) c.in-Err.ensures.grows

@@ -1,27 +1,28 @@
 use Rattle.std.proofs.Common.{◌∙◌, ap, sym, arith, Ok, Bool}
+use Rattle.glacier_server.specs.Placed.{placed_as}
 use Rattle.glacier_server.proofs.ServingLemmas.{serves_none, breaks_accept, just_accepted}
 use Rattle.glacier_server.proofs.service.Service.serve_next.Goals as goal
 
 pub returns-in-Ok-clause-served : goal.returns-in-Ok-clause-served
-returns-in-Ok-clause-served g c t =
+returns-in-Ok-clause-served g c t state same =
     let ok = ap (λ (b : Bool). Ok b) c.in-Ok-true.field-0-test in
     let came = c.in-Ok-true.ensures.accepts t in
     let next = came.next ok in
-    c.in-Ok.ensures.served t c.args.station.now (just_accepted c.args.store c.accept.ensures.call next.0 next.1
+    c.in-Ok.ensures.served t c.args.station.now state same (just_accepted (placed_as c.args.store state) c.accept.ensures.call next.0 next.1
     (omega (arith, came.fewer ok)))
 
 pub returns-in-Err-serve_accepted-clause-broken : goal.returns-in-Err-serve_accepted-clause-broken
-returns-in-Err-serve_accepted-clause-broken g c t =
+returns-in-Err-serve_accepted-clause-broken g c t state same =
     let ok = ap (λ (b : Bool). Ok b) c.in-Ok-true.field-0-test in
     let came = c.in-Ok-true.ensures.accepts t in
     let next = came.next ok in
-    c.in-Err-serve_accepted.ensures.broken t c.args.station.now
-    (just_accepted c.args.store c.accept.ensures.call next.0 next.1 (omega (arith, came.fewer ok)))
+    c.in-Err-serve_accepted.ensures.broken t c.args.station.now state same
+    (just_accepted (placed_as c.args.store state) c.accept.ensures.call next.0 next.1 (omega (arith, came.fewer ok)))
 
 pub returns-in-Ok-false-clause-served : goal.returns-in-Ok-false-clause-served
-returns-in-Ok-false-clause-served g c t =
+returns-in-Ok-false-clause-served g c t state same =
     let end = (c.in-Ok-false.ensures.accepts t).end (ap (λ (b : Bool). Ok b) c.in-Ok-false.field-0-test) in
-    serves_none c.accept.ensures.call end.2 (end.1 ∙ sym end.0)
+    (state, serves_none c.accept.ensures.call end.2 (end.1 ∙ sym end.0))
 
 pub returns-in-Err-clause-broken : goal.returns-in-Err-clause-broken
-returns-in-Err-clause-broken g c t = breaks_accept c.accept.ensures.call (c.in-Err.ensures.accepts t).failed.1
+returns-in-Err-clause-broken g c t state same = breaks_accept c.accept.ensures.call (c.in-Err.ensures.accepts t).failed.1
