@@ -1,5 +1,6 @@
 -- How serving from a folder ends.
-use Rattle.std.proofs.Common.{◌≡◌, ◌<◌, ◌++◌, ◌∙◌, ◌∷◌, [], ℕ, Bool, List, inl, inr, sym, ap, subst}
+use Rattle.std.proofs.Common.{◌≡◌, ◌<◌, ◌++◌, ◌∙◌, ◌∷◌, [], ℕ, Bool, List, None, inl, inr, refl, sym, ap, subst}
+use Rattle.std.specs.FinMap as map
 use Rattle.std.specs.Prelude.{IsTrue}
 use Rattle.glacier_base.specs.Outside.{one_more, HasRisen}
 use Rattle.glacier_disk.specs.Calls.{SameDisk}
@@ -12,12 +13,16 @@ use Rattle.glacier_server.specs.declared.end.ServeFault.{ServeFault}
 use Rattle.glacier_server.specs.declared.end.ServeFault.TheVariants as server
 use Rattle.glacier_server.specs.Serving.{Comes, Serves, Breaks, Broken, ServesOn, HasStopped, readings_of}
 use Rattle.glacier_server.specs.Session.{Session}
-use Rattle.glacier_store.specs.Stands.{Kept}
+use Rattle.glacier_replay.specs.Changes.{State}
+use Rattle.glacier_server.specs.Placed.{Placed, placed_as}
+use Rattle.glacier_store.proofs.KeptLemmas.{held_rests}
+use Rattle.glacier_store.specs.Kept.{Kept}
+use Rattle.glacier_store.specs.Quotas.{over_quota}
 use Rattle.glacier_store.specs.declared.store.Store.{Store}
-use Rattle.glacier_cli.specs.Beginning.{Starts}
+use Rattle.glacier_cli.specs.Beginning.{Starts, StartsFrom}
 use Rattle.glacier_cli.specs.Forms.{ServeWords}
 use Rattle.glacier_cli.specs.Program.{FolderEnds, of_server}
-use Rattle.glacier_cli.specs.Serving.{ServesAt, ServesTill, BreaksAt}
+use Rattle.glacier_cli.specs.Serving.{BreaksAt, Holds, ServesAt, ServesFrom, ServesTill, TillFrom}
 use Rattle.glacier_cli.specs.StationUse.{station_use, config_of, OpensAll}
 use Rattle.glacier_cli.proofs.StationLemmas.{Before}
 
@@ -32,46 +37,65 @@ opens_all tells words folder listener disk named kept = record {
 }
 
 -- calls that leave no new image keep a store
-pub still_kept : {old new : Told} {store : Store} → NoMore old.leaves new.leaves → Kept old store → Kept new store
-still_kept crash kept = record { payloads = kept.payloads; listed = λ i now. kept.listed i (crash i now); made = kept.made }
+pub still_kept : {old new : Told} {store : Store} {state : State} → NoMore old.leaves new.leaves → Kept old store state
+    → Kept new store state
+still_kept {old = old} {new = new} {store = store} {state = state} crash kept = record {
+  accounts = kept.accounts;
+  held = held_rests old new store.journal store.area.blobs state crash kept.held;
+  rest = kept.rest;
+}
 
 module _ (tells : Bool) {old mid : Told} (ring : List Entry) (words : ServeWords) (store : Store) (x : Before words.is_new old mid)
-    (starts : Starts words.is_new old.reads store) where
+    (starts : Starts words.is_new old.reads store) (within : over_quota ring store.accounts ≡ None) where
   comes_from : {new : Told} {came : List Connection} {sessions : List Session} → Comes mid new came sessions → Comes old new came sessions
   comes_from {came = came} {sessions = sessions} comes = record {
     behind = comes.behind ∙ ap (λ (l : List Connection). l ++ came) x.connections;
     read = comes.read ∙ ap (λ (l : List ℕ). l ++ readings_of sessions) x.readings;
   }
 
-  -- all that came
-  pub serves_at : {new : Told} {config : Config} {after : Store} {count : ℕ} → config ≡ config_of ring words
-      → Kept mid store → OpensAll (station_use tells old new) words → Serves config mid new store after count
-      → (count < words.connections → new.listener.to_come ≡ 0) → ServesAt (station_use tells old new) ring words count
-  serves_at {new = new} {after = after} {count = count} is begun opens given fewer =
-      let s = subst (λ (c : Config). Serves c mid new store after count) is given in
+  holds : {new : Told} → Holds (station_use tells old new) ring words
+  holds = record { store = store; starts = starts; within = within }
+
+  serves_from : {new : Told} {config : Config} {count : ℕ} → config ≡ config_of ring words
+      → ((state : State) → StartsFrom words.is_new old.reads state → Kept mid store state)
+      → (state : State) (after : Placed) → Serves config mid new (placed_as store state) after count
+      → ServesFrom (station_use tells old new) ring words (placed_as store state) count
+  serves_from {new = new} {count = count} is begun state after given =
+      let s = subst (λ (c : Config). Serves c mid new (placed_as store state) after count) is given in
       record {
-        opens = opens;
-        store = store;
-        starts = starts;
         after = after;
-        kept = s.does.kept begun;
+        kept = λ from. s.does.kept (begun state from);
         came = s.came;
         sessions = s.sessions;
         comes = comes_from s.comes;
         number = s.number;
-        left = sym x.to_come ∙ s.fewer;
         each = s.each;
+      }
+
+  -- all that came
+  pub serves_at : {new : Told} {config : Config} {after : Store} {count : ℕ} → config ≡ config_of ring words
+      → ((state : State) → StartsFrom words.is_new old.reads state → Kept mid store state)
+      → OpensAll (station_use tells old new) words
+      → ((state : State) → store.accounts ≡ state.accounts
+      → (left : State) × Serves config mid new (placed_as store state) (placed_as after left) count)
+      → (count < words.connections → new.listener.to_come ≡ 0) → ServesAt (station_use tells old new) ring words count
+  serves_at {new = new} {after = after} {count = count} is begun opens given fewer =
+      let one = given (record { accounts = store.accounts; bodies = map.empty }) refl in
+      record {
+        opens = opens;
+        holds = holds;
+        serves = λ state same. let s = given state same in serves_from is begun state (placed_as after s.0) s.1;
+        left = sym x.to_come ∙ one.1.fewer;
         fewer = fewer;
       }
 
   -- as far as the fault
-  serves_till : {new : Told} {config : Config} {fault : ServeFault} → config ≡ config_of ring words
-      → Breaks config mid new store words.connections fault → ServesTill (station_use tells old new) ring words fault
-  serves_till {new = new} {fault = fault} is given =
-      let s = subst (λ (c : Config). Breaks c mid new store words.connections fault) is given in
+  till_from : {new : Told} {config : Config} {fault : ServeFault} → config ≡ config_of ring words → (state : State)
+      → Breaks config mid new (placed_as store state) words.connections fault
+      → TillFrom (station_use tells old new) ring words fault (placed_as store state)
+  till_from {new = new} {fault = fault} is state given =
+      let s = subst (λ (c : Config). Breaks c mid new (placed_as store state) words.connections fault) is given in
       record {
-        store = store;
-        starts = starts;
         after = s.after;
         came = s.came;
         sessions = s.sessions;
@@ -79,6 +103,11 @@ module _ (tells : Bool) {old mid : Told} (ring : List Entry) (words : ServeWords
         few = s.few;
         till = s.till;
       }
+
+  serves_till : {new : Told} {config : Config} {fault : ServeFault} → config ≡ config_of ring words
+      → ((state : State) → store.accounts ≡ state.accounts → Breaks config mid new (placed_as store state) words.connections fault)
+      → ServesTill (station_use tells old new) ring words fault
+  serves_till is given = record { holds = holds; serves = λ state same. till_from is state (given state same) }
 
   breaks_at : {new : Told} {config : Config} {fault : ServeFault} → config ≡ config_of ring words
       → OpensAll (station_use tells old new) words → Broken config mid new store words.connections fault
@@ -98,27 +127,27 @@ module _ (tells : Bool) {old mid : Told} (ring : List Entry) (words : ServeWords
 -- the ending of a fault of the server
 pub fault_ends : (tells : Bool) {old mid new : Told} {config : Config} (ring : List Entry) (words : ServeWords) (store : Store)
     (fault : ServeFault) → config ≡ config_of ring words → (IsTrue tells → Before words.is_new old mid)
-    → (IsTrue tells → Starts words.is_new old.reads store)
+    → (IsTrue tells → Starts words.is_new old.reads store) → over_quota ring store.accounts ≡ None
     → mid.disk_faults ≡ old.disk_faults → mid.listener.faults ≡ old.listener.faults
     → (IsTrue tells → OpensAll (station_use tells old new) words)
     → (IsTrue tells → Broken config mid new store words.connections fault)
     → HasStopped fault mid new
     → FolderEnds (station_use tells old new) ring words (of_server fault)
-fault_ends tells {new = new} ring words store server.Disk is x starts disk listener opens broken shows = (
+fault_ends tells {new = new} ring words store server.Disk is x starts within disk listener opens broken shows = (
   subst (λ (n : ℕ). HasRisen n new.disk_faults) disk shows.1,
   shows.0 ∙ listener,
-  λ t. breaks_at tells ring words store (x t) (starts t) is (opens t) (broken t),
+  λ t. breaks_at tells ring words store (x t) (starts t) within is (opens t) (broken t),
 )
-fault_ends tells ring words store server.Memory is x starts disk listener opens broken shows = (
+fault_ends tells ring words store server.Memory is x starts within disk listener opens broken shows = (
   record { disk = shows.1 ∙ disk; listener = shows.0 ∙ listener },
-  λ t. breaks_at tells ring words store (x t) (starts t) is (opens t) (broken t),
+  λ t. breaks_at tells ring words store (x t) (starts t) within is (opens t) (broken t),
 )
-fault_ends tells ring words store (server.JournalEnd length) is x starts disk listener opens broken shows = (
+fault_ends tells ring words store (server.JournalEnd length) is x starts within disk listener opens broken shows = (
   record { disk = shows.1 ∙ disk; listener = shows.0 ∙ listener },
-  λ t. (opens t, ends_till tells ring words store (x t) (starts t) is (broken t)),
+  λ t. (opens t, ends_till tells ring words store (x t) (starts t) within is (broken t)),
 )
-fault_ends tells ring words store server.Accept is x starts disk listener opens broken shows = (
+fault_ends tells ring words store server.Accept is x starts within disk listener opens broken shows = (
   shows.0 ∙ ap one_more listener,
   shows.1 ∙ disk,
-  λ t. breaks_at tells ring words store (x t) (starts t) is (opens t) (broken t),
+  λ t. breaks_at tells ring words store (x t) (starts t) within is (opens t) (broken t),
 )

@@ -1,6 +1,6 @@
 -- What a crash leaves of a run before and while it serves.
 use Rattle.std.proofs.Common.{◌≡◌, ◌≤◌, ◌++◌, ◌∙◌, true, false, ℕ, Bool, List, [], inl, inr, ⊎_elim, refl, sym, ap, subst, arith, append-nil}
-use Rattle.std.specs.Prelude.{Result}
+use Rattle.std.specs.Prelude.{None, Result}
 use Rattle.glacier_disk.specs.Calls.{ListenCall}
 use Rattle.glacier_disk.specs.Image.{Image, Only}
 use Rattle.glacier_disk.specs.Moments.{Looks, looks_start, looks_on}
@@ -11,13 +11,15 @@ use Rattle.glacier_sigv4.specs.declared.ring.Entry.{Entry}
 use Rattle.glacier_server.specs.Acts.{Act, StopsAfter}
 use Rattle.glacier_server.specs.Headline.{Headline as Serves}
 use Rattle.glacier_server.specs.Serving.{acts_of, readings_of}
-use Rattle.glacier_vault.specs.Accounts.{Accounts}
-use Rattle.glacier_store.specs.Stands.{Stands}
+use Rattle.glacier_replay.specs.Changes.{State}
+use Rattle.glacier_replay.specs.Standing.{Stands}
+use Rattle.glacier_server.specs.Placed.{placed_as}
+use Rattle.glacier_store.specs.Quotas.{over_quota}
 use Rattle.glacier_store.specs.declared.store.Store.{Store}
 use Rattle.glacier_cli.specs.declared.ending.Ending.{Ending}
 use Rattle.glacier_cli.specs.Beginning.{BeginsIn, IsInOrder, IsSpared, Starts, StartsFrom}
 use Rattle.glacier_cli.specs.Forms.{ServeWords}
-use Rattle.glacier_cli.specs.Serving.{Headline, Spares}
+use Rattle.glacier_cli.specs.Serving.{Headline, HeadlineFrom, Spares}
 use Rattle.glacier_cli.specs.StationUse.{station_use, config_of}
 
 -- no connection came and no reading was taken, and a crash meanwhile leaves nothing new in a folder that is only looked at
@@ -69,7 +71,7 @@ before_listen {old = old} {mid = mid} {new = new} x call = record {
 }
 
 -- where only the disk as it read could be left, what could be left stands for its state
-still_stands : (reads : Image) (leaves : Image → Type 0) (state : Accounts) (i : Image) → Only reads leaves → Stands reads state
+still_stands : (reads : Image) (leaves : Image → Type 0) (state : State) (i : Image) → Only reads leaves → Stands reads state
     → leaves i → Stands i state
 still_stands reads leaves state i only stands there = subst (λ (image : Image). Stands image state) (sym (only i there)) stands
 
@@ -88,35 +90,37 @@ module _ (tells : Bool) {old : Told} (ring : List Entry) (words : ServeWords) wh
   }
 
   -- the run ended before a connection came
-  pub none_came : {new : Told} → Before words.is_new old new → Headline (station_use tells old new) ring words
-  none_came {new = new} x = record {
+  none_from : {new : Told} → Before words.is_new old new → (state : State) → StartsFrom words.is_new old.reads state
+      → HeadlineFrom (station_use tells old new) ring words state
+  none_from {new = new} x state from = record {
     came = [];
     sessions = [];
     comes = record { behind = x.connections ∙ sym (append-nil old.connections); read = x.readings ∙ sym (append-nil old.readings) };
     machine = inl (refl, refl);
-    stop = λ state from i sent left. inl (x.each i sent left).0;
-    any_moment = λ opens only state stands i sent left.
+    stop = λ i sent left. inl (x.each i sent left).0;
+    any_moment = λ opens only i sent left.
         let was = x.each i sent left in
+        let stands = subst (λ (b : Bool). StartsFrom b old.reads state) opens from in
         record { k = 0; bytes = was.0; stands = still_stands old.reads old.leaves state i only stands (was.1 (inl opens)) };
-    spared = spares x;
   }
+
+  pub none_came : {new : Told} → Before words.is_new old new → Headline (station_use tells old new) ring words
+  none_came x = record { from = none_from x; spared = spares x }
 
   -- a crash behind what came before is one of the run
   module _ {mid : Told} (x : Before words.is_new old mid) (store : Store) where
-    of_run : (state : Accounts) → store.accounts ≡ state → (acts : List Act) (i : Image) (sent : List (List ℕ))
-        → StopsAfter (sent_on mid.connections) store.accounts acts i sent
+    of_run : (state : State) (acts : List Act) (i : Image) (sent : List (List ℕ))
+        → StopsAfter (sent_on mid.connections) state acts i sent
         → StopsAfter (sent_on old.connections) state acts i sent
-    of_run state is acts i sent stop =
-        subst (λ (s : Accounts). StopsAfter (sent_on old.connections) s acts i sent) is
-        (subst (λ (l : List Connection). StopsAfter (sent_on l) store.accounts acts i sent) x.connections stop)
+    of_run state acts i sent stop = subst (λ (l : List Connection). StopsAfter (sent_on l) state acts i sent) x.connections stop
 
     -- what was served from this store on
-    module _ (starts : Starts words.is_new old.reads store)
-        (found : (state : Accounts) → StartsFrom words.is_new old.reads state → store.accounts ≡ state) where
-      pub served_on : {new : Told} {config : Config} → config ≡ config_of ring words → Serves config mid new store
-          → Headline (station_use tells old new) ring words
-      served_on {new = new} {config = config} is given =
-          let h = subst (λ (c : Config). Serves c mid new store) is given in
+    module _ (starts : Starts words.is_new old.reads store) (within : over_quota ring store.accounts ≡ None) where
+      served_from : {new : Told} {config : Config} → config ≡ config_of ring words → (state : State)
+          → StartsFrom words.is_new old.reads state → Serves config mid new (placed_as store state)
+          → HeadlineFrom (station_use tells old new) ring words state
+      served_from {new = new} {config = config} is state from given =
+          let h = subst (λ (c : Config). Serves c mid new (placed_as store state)) is given in
           record {
             came = h.came;
             sessions = h.sessions;
@@ -124,15 +128,22 @@ module _ (tells : Bool) {old : Told} (ring : List Entry) (words : ServeWords) wh
               behind = h.behind ∙ ap (λ (l : List Connection). l ++ h.came) x.connections;
               read = h.read ∙ ap (λ (l : List ℕ). l ++ readings_of h.sessions) x.readings;
             };
-            machine = inr (store, starts, h.machine);
-            stop = λ state from i sent left. ⊎_elim (λ before. inl (x.each i sent before).0)
-                (λ stop. inr (of_run state (found state from) (acts_of h.sessions) i sent stop))
+            machine = inr (record { store = store; starts = starts; within = within }, h.machine);
+            stop = λ i sent left. ⊎_elim (λ before. inl (x.each i sent before).0)
+                (λ stop. inr (of_run state (acts_of h.sessions) i sent stop))
                 (h.amid.each old.moment i sent x.later left);
-            any_moment = λ opens only state stands i sent left.
-                let from = subst (λ (b : Bool). StartsFrom b old.reads state) (sym opens) stands in
+            any_moment = λ opens only i sent left.
+                let stands = subst (λ (b : Bool). StartsFrom b old.reads state) opens from in
                 ⊎_elim (λ before. let was = x.each i sent before in
                 record { k = 0; bytes = was.0; stands = still_stands old.reads old.leaves state i only stands (was.1 (inl opens)) })
-                (λ stop. of_run state (found state from) (acts_of h.sessions) i sent stop)
+                (λ stop. of_run state (acts_of h.sessions) i sent stop)
                 (h.amid.each old.moment i sent x.later left);
-            spared = λ not. absurd (not (starts_in_order words.is_new old.reads store starts));
           }
+
+      pub served_on : {new : Told} {config : Config} → config ≡ config_of ring words
+          → ((state : State) → StartsFrom words.is_new old.reads state → Serves config mid new (placed_as store state))
+          → Headline (station_use tells old new) ring words
+      served_on is given = record {
+        from = λ state from. served_from is state from (given state from);
+        spared = λ not. absurd (not (starts_in_order words.is_new old.reads store starts));
+      }

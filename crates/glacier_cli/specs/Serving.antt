@@ -9,11 +9,10 @@ use Rattle.glacier_server.specs.Acts.{StopsAfter}
 use Rattle.glacier_server.specs.Serving.{Comes, ServedAll, ServedTill, BreaksLast, acts_of}
 use Rattle.glacier_server.specs.Session.{Session}
 use Rattle.glacier_replay.specs.Changes.{State}
-use Rattle.glacier_replay.specs.Standing.{Stands}
 use Rattle.glacier_server.specs.Placed.{IsKept, Placed, placed_as}
 use Rattle.glacier_store.specs.Quotas.{over_quota}
 use Rattle.glacier_store.specs.declared.store.Store.{Store}
-use Rattle.glacier_cli.specs.Beginning.{Finds, IsInOrder, StartsFrom, Starts}
+use Rattle.glacier_cli.specs.Beginning.{IsInOrder, StartsFrom, Starts}
 use Rattle.glacier_cli.specs.Forms.{ServeWords}
 use Rattle.glacier_cli.specs.StationUse.{StationUse, NoneCame, OpensAll, OpensAtMost, config_of}
 
@@ -84,7 +83,7 @@ pub record Spares (station : StationUse) : Type 0 where
   pub any_moment : (i : Image) (sent : List (List ℕ)) → station.after.left_with station.before.moment i sent
       → station.before.leaves i
 
--- what a run did and what a crash left, by a state with the accounts that the folder holds
+-- what a run did, and what a crash at a moment of it left, from the state on that the folder stood for
 pub record HeadlineFrom (station : StationUse) (ring : List Entry) (words : ServeWords) (state : State) : Type 0 where
   -- these connections came, and this was done on each: bytes taken, readings, events kept and bytes sent
   pub came : List Connection
@@ -93,21 +92,18 @@ pub record HeadlineFrom (station : StationUse) (ring : List Entry) (words : Serv
   -- it is what the vault machine does for these bytes, from this state on
   pub machine : IsNone came sessions
       ⊎ ((holds : Holds station ring words) × IsServed (config_of ring words) came sessions (placed_as holds.store state))
-  -- Where the folder stood for the state, what a crash at any moment left behind the first accept stands for the state
-  -- after some first acts of it, and just the bytes among those had been sent.
-  pub stop : StartsFrom words.is_new station.before.reads state
-      → (i : Image) (sent : List (List ℕ)) → station.after.left_with station.before.moment i sent
+  -- What a crash at any moment left behind the first accept stands for the state after some first acts of it, and just
+  -- the bytes among those had been sent.
+  pub stop : (i : Image) (sent : List (List ℕ)) → station.after.left_with station.before.moment i sent
       → (sent ≡ sent_on station.before.connections)
       ⊎ StopsAfter (sent_on station.before.connections) state (acts_of sessions) i sent
   -- so before it too, where a store was opened, and at the start only the disk as it read could be left
   pub any_moment : words.is_new ≡ false → Only station.before.reads station.before.leaves
-      → Stands station.before.reads state
       → (i : Image) (sent : List (List ℕ)) → station.after.left_with station.before.moment i sent
       → StopsAfter (sent_on station.before.connections) state (acts_of sessions) i sent
 
 -- THE HEADLINE of a run that serves, whatever its ending.
 pub record Headline (station : StationUse) (ring : List Entry) (words : ServeWords) : Type 0 where
-  pub from : (state : State) → Finds words.is_new station.before.reads state.accounts
-      → HeadlineFrom station ring words state
+  pub from : (state : State) → StartsFrom words.is_new station.before.reads state → HeadlineFrom station ring words state
   -- nothing changes in a folder that isn't in order
   pub spared : (IsInOrder words.is_new station.before.reads → ⊥) → Spares station

@@ -40,17 +40,17 @@ use Rattle.glacier_server.specs.Placed.{Placed, placed_as}
 use Rattle.glacier_store.specs.declared.store.Store.{Store}
 
 -- what holds of the outcome by the accounts of a store does so by those of its state
-pub keeps_by : {T : Type 0} {a b : Told} {config : Config} {unread kept : List ℕ} {spans : HeadSpans} {r : ℕ} (store : Store)
+pub keeps_by : {T : Type 0} {a b : Told} {unread kept : List ℕ} {r : ℕ} (config : Config) (spans : HeadSpans) (store : Store)
     (result : Result (T × Store) ServeFault) {was is : Accounts} → was ≡ is
     → AtFront unread spans kept (λ m. KeepsOutcome a b store (one config was m r) result)
     → AtFront unread spans kept (λ m. KeepsOutcome a b store (one config is m r) result)
-keeps_by {a = a} {b = b} {config = config} {unread = unread} {kept = kept} {spans = spans} {r = r} store result same each =
+keeps_by {a = a} {b = b} {unread = unread} {kept = kept} {r = r} config spans store result same each =
     subst (λ (s : Accounts). AtFront unread spans kept (λ m. KeepsOutcome a b store (one config s m r) result)) same each
 
-pub answers_by : {config : Config} {unread kept : List ℕ} {spans : HeadSpans} {r : ℕ} (answer : Reply) {was is : Accounts}
+pub answers_by : {unread kept : List ℕ} {r : ℕ} (config : Config) (spans : HeadSpans) (answer : Reply) {was is : Accounts}
     → was ≡ is → AtFront unread spans kept (λ m. answer ≡ (one config was m r).reply)
     → AtFront unread spans kept (λ m. answer ≡ (one config is m r).reply)
-answers_by {config = config} {unread = unread} {kept = kept} {spans = spans} {r = r} answer same each =
+answers_by {unread = unread} {kept = kept} {r = r} config spans answer same each =
     subst (λ (s : Accounts). AtFront unread spans kept (λ m. answer ≡ (one config s m r).reply)) same each
 
 -- a good head, for which a reading was taken, and then bytes of its body
@@ -189,18 +189,17 @@ module _ (config : Config) (from : Standing) (headers : List HeaderSpan) (spans 
           kept_events = at_message kept keeps (λ m. KeepsOutcome c d from.placed.store
               (one config from.placed.state.accounts m r) (Ok reply_is)) each
 
-          left_now : Placed
+          abbrev left_now : Placed
           left_now = placed_as reply_is.1 (after config from.placed.state message r)
 
           commits : Transfer c d (acting from.placed left_now (acts_of (happened config from.placed.state message r))) nothing
-          unfolding left_now
           commits = committed config from.placed message r close law alone reply_is kept_events
 
           -- it was sent
           pub reply_sent : {e : Told} → SentAll d e (text_of_reply reply_is.0 r close) → (to : Standing)
               → left_now ≡ to.placed
               → to.unread ≡ drop used from.unread → Exchanges config from to a e end
-          unfolding message text left_now
+          unfolding message text
           reply_sent {e = e} sent to leaves left_is =
               let new = left_now in
               let x = answering from.placed new takes.got text r takes.takes.waits in record {
@@ -225,7 +224,7 @@ module _ (config : Config) (from : Standing) (headers : List HeaderSpan) (spans 
           -- a first part of it was sent
           pub reply_unsent : {e : Told} → SentPart d e (text_of_reply reply_is.0 r close) → (to : Standing)
               → left_now ≡ to.placed → Exchanges config from to a e (Some SendFault)
-          unfolding message text left_now
+          unfolding message text
           reply_unsent {e = e} sent to leaves =
               let new = left_now in
               let part = done_part config from.placed message r close new commits

@@ -13,7 +13,9 @@ use Rattle.glacier_server.specs.Breaking.{BrokenBy}
 use Rattle.glacier_server.specs.Session.{Session}
 use Rattle.glacier_server.specs.Transfer.{Fails}
 use Rattle.glacier_server.specs.Does.{Does, Grew, nothing, breaking}
-use Rattle.glacier_server.specs.Placed.{Placed}
+use Rattle.glacier_replay.specs.Changes.{State}
+use Rattle.glacier_server.specs.Placed.{Placed, placed_as}
+use Rattle.glacier_store.specs.declared.store.Store.{Store}
 
 -- the session is all that was done on the connection
 pub record IsSessionOf (c : Connection) (s : Session) : Type 0 where
@@ -105,10 +107,11 @@ abbrev pub NeverBegan : ServeFault → Told → Told → Type 0
 NeverBegan fault old new =
     (fault ≡ Memory) × (new.connections ≡ old.connections) × (new.readings ≡ old.readings)
 
--- how the server stopped
-abbrev pub Broken : Config → Told → Told → Placed → ℕ → ServeFault → Type 0
-Broken config old new placed most fault =
-    Breaks config old new placed most fault ⊎ NeverBegan fault old new
+-- how the server stopped, from a store on with each state of its accounts
+abbrev pub Broken : Config → Told → Told → Store → ℕ → ServeFault → Type 0
+Broken config old new store most fault =
+    ((state : State) → store.accounts ≡ state.accounts → Breaks config old new (placed_as store state) most fault)
+    ⊎ NeverBegan fault old new
 
 -- a connection was just accepted, and nothing else was done
 pub record JustAccepted (old new : Told) (placed : Placed) : Type 0 where

@@ -107,9 +107,8 @@ pub fn serve<S: Station>(
     ensures served { IsTrue S.tells → (state : State) → store.accounts ≡ state.accounts →
         IfOk result (λ r. (after : State) × Serves config.now (S.told station.old)
         (S.told station.new) (placed_as store state) (placed_as r.1 after) r.0) }
-    ensures broken { IsTrue S.tells → (state : State) → store.accounts ≡ state.accounts →
-        IfErr result (λ fault. Broken config.now (S.told station.old) (S.told station.new)
-        (placed_as store state) connections fault) }
+    ensures broken { IsTrue S.tells → IfErr result (λ fault. Broken config.now
+        (S.told station.old) (S.told station.new) store connections fault) }
     ensures headline { IsTrue S.tells → (state : State) → Kept (S.told station.old) store state →
         Headline config.now (S.told station.old) (S.told station.new) (placed_as store state) }
     ensures most { IfOk result (λ r. r.0 ≤ connections) }

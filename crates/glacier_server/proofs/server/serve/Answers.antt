@@ -7,7 +7,7 @@ use Rattle.glacier_server.proofs.ServingLemmas.{serves_nothing, serves_then, bre
 use Rattle.glacier_server.proofs.server.serve.Goals as goal
 
 pub returns-in-Err-clause-broken : goal.returns-in-Err-clause-broken
-returns-in-Err-clause-broken g c t state same = inr (refl, refl, refl)
+returns-in-Err-clause-broken g c t = inr (refl, refl, refl)
 
 pub connections-init : goal.connections-init
 connections-init g c = record {
@@ -42,9 +42,9 @@ returns-in-Ok-false-default-clause-served g c t state same =
     )
 
 pub returns-in-Err-serve_next-clause-broken : goal.returns-in-Err-serve_next-clause-broken
-returns-in-Err-serve_next-clause-broken g c t state same =
+returns-in-Err-serve_next-clause-broken g c t = inl (λ state same.
     let before = c.connections.invariant.served t state same in
-    inl (breaks_then (omega (arith, c.connections-test.true)) before.1
+    breaks_then (omega (arith, c.connections-test.true)) before.1
     (c.in-Err-serve_next.ensures.broken t before.0 (before.1.does.agrees same)))
 
 pub returns-in-Err-clause-headline : goal.returns-in-Err-clause-headline

@@ -49,7 +49,7 @@ returns-in-Err-replied-clause-broken g c t state same =
     (extends_by _ _ _ _ _ c.count-length.ensures.same c.extent_of-extent.ensures.used c.extent_of-extent.ensures.left)
     _ c.bytes.result.now c.bytes.ensures.same _ (subst (λ (l : List ℕ). IsBodyKept l (take (c.extent_of-extent.result.used - c.args.spans.now.head_length)
     (drop c.args.spans.now.head_length c.bytes.result.now) ++ (c.in-Ok.ensures.takes t).rest.got)) (sym kept) ((c.in-Ok.ensures.takes t).keeps (omega (arith, c.if-left-gt0.false)))))
-    c.in-Err-replied.fault refl law alone c.in-Err-replied.ensures.fault (keeps_by c.args.store (Err c.in-Err-replied.fault) same (c.in-Err-replied.ensures.keeps t))
+    c.in-Err-replied.fault refl law alone c.in-Err-replied.ensures.fault (keeps_by c.args.self.now.config.now c.args.spans.now c.args.store (Err c.in-Err-replied.fault) same (c.in-Err-replied.ensures.keeps t))
 
 pub returns-in-Ok-send_reply-clause-exchange : goal.returns-in-Ok-send_reply-clause-exchange
 returns-in-Ok-send_reply-clause-exchange g c t state same =
@@ -67,8 +67,8 @@ returns-in-Ok-send_reply-clause-exchange g c t state same =
     _ c.bytes.result.now c.bytes.ensures.same _ (subst (λ (l : List ℕ). IsBodyKept l (take (c.extent_of-extent.result.used - c.args.spans.now.head_length)
     (drop c.args.spans.now.head_length c.bytes.result.now) ++ (c.in-Ok.ensures.takes t).rest.got)) (sym kept) ((c.in-Ok.ensures.takes t).keeps (omega (arith, c.if-left-gt0.false)))))
     c.good_end-end.ensures.end c.good_end-end.ensures.of_none c.is_some.result flag law alone
-    c.in-Ok-replied.replied (answers_by c.in-Ok-replied.replied.0 same c.in-Ok-replied.ensures.reply)
-    (keeps_by c.args.store (Ok c.in-Ok-replied.replied) same (c.in-Ok-replied.ensures.keeps t))
+    c.in-Ok-replied.replied (answers_by c.args.self.now.config.now c.args.spans.now c.in-Ok-replied.replied.0 same c.in-Ok-replied.ensures.reply)
+    (keeps_by c.args.self.now.config.now c.args.spans.now c.args.store (Ok c.in-Ok-replied.replied) same (c.in-Ok-replied.ensures.keeps t))
     (c.in-Ok-send_reply.ensures.sent t) _ refl c.skip.ensures)
 
 pub returns-clause-exchange : goal.returns-clause-exchange
@@ -87,8 +87,8 @@ returns-clause-exchange g c t state same =
     _ c.bytes.result.now c.bytes.ensures.same _ (subst (λ (l : List ℕ). IsBodyKept l (take (c.extent_of-extent.result.used - c.args.spans.now.head_length)
     (drop c.args.spans.now.head_length c.bytes.result.now) ++ (c.in-Ok.ensures.takes t).rest.got)) (sym kept) ((c.in-Ok.ensures.takes t).keeps (omega (arith, c.if-left-gt0.false)))))
     c.good_end-end.ensures.end c.good_end-end.ensures.of_none c.is_some.result flag law alone
-    c.in-Ok-replied.replied (answers_by c.in-Ok-replied.replied.0 same c.in-Ok-replied.ensures.reply)
-    (keeps_by c.args.store (Ok c.in-Ok-replied.replied) same (c.in-Ok-replied.ensures.keeps t))
+    c.in-Ok-replied.replied (answers_by c.args.self.now.config.now c.args.spans.now c.in-Ok-replied.replied.0 same c.in-Ok-replied.ensures.reply)
+    (keeps_by c.args.self.now.config.now c.args.spans.now c.args.store (Ok c.in-Ok-replied.replied) same (c.in-Ok-replied.ensures.keeps t))
     (c.in-Err-send_reply.ensures.failed t) _ refl)
 
 pub returns-in-Err-replied-clause-keeps : goal.returns-in-Err-replied-clause-keeps
