@@ -2,7 +2,7 @@
 use Rattle.std.proofs.Common.{◌≡◌, ◌≢◌, ◌⊎◌, ℕ, Some, inl, inr, sym, ◌∙◌, arith}
 use Rattle.glacier_base.specs.Outside.{one_more, HasRisen}
 use Rattle.glacier_cli.specs.declared.ending.Ending.{Ending}
-use Rattle.glacier_cli.specs.declared.ending.Ending.TheVariants.{Hashed, Served, Usage, FileFault, BadKeyFile, NoMemory, DiskFault, ListenerFault, NotAJournal, NotEmpty, JournalEnd}
+use Rattle.glacier_cli.specs.declared.ending.Ending.TheVariants.{Hashed, Served, Usage, FileFault, BadKeyFile, NoMemory, DiskFault, ListenerFault, NotAJournal, NotEmpty, JournalEnd, OverQuota}
 use Rattle.glacier_cli.specs.Endings.{SinkUse, PrintsEnding}
 use Rattle.glacier_cli.specs.FileUse.{FileUse}
 use Rattle.glacier_cli.specs.Forms.{ServeWords, serve}
@@ -21,7 +21,7 @@ module _ {files : FileUse} {station : StationUse} {sink : SinkUse} {words : Serv
   -- a status that isn't 0 and isn't 3
   other_run : (n : ℕ) → status ≡ n → n ≢ 0 → n ≢ 3
       → (AllWell files station sink → (status ≡ 0) ⊎ (status ≡ 4)
-      ⊎ ((status ≡ 3) × HasBadLine (Some (serve words)) files) ⊎ (status ≡ 8) ⊎ (status ≡ 10))
+      ⊎ ((status ≡ 3) × HasBadLine (Some (serve words)) files) ⊎ (status ≡ 8) ⊎ (status ≡ 10) ⊎ (status ≡ 11))
       → ServeRun files station sink words status
   other_run n is zero three well = record {
     printed = λ s _ _. not_two status n 0 is zero s;
@@ -66,7 +66,10 @@ module _ {files : FileUse} {station : StationUse} {sink : SinkUse} {words : Serv
       other_run 8 done.0 (omega arith) (omega arith) (λ _. inr (inr (inr (inl done.0))))
   serve_run (JournalEnd length) (inl ends) (inl done) = absurd ends.0
   serve_run (JournalEnd length) (inr ends) (inl done) =
-      other_run 10 done.0 (omega arith) (omega arith) (λ _. inr (inr (inr (inr done.0))))
+      other_run 10 done.0 (omega arith) (omega arith) (λ _. inr (inr (inr (inr (inl done.0)))))
+  serve_run (OverQuota over) (inl ends) (inl done) = absurd ends.0
+  serve_run (OverQuota over) (inr ends) (inl done) =
+      other_run 11 done.0 (omega arith) (omega arith) (λ _. inr (inr (inr (inr (inr done.0)))))
   serve_run (Hashed digest) (inl ends) (inl done) = absurd ends.0
   serve_run (Hashed digest) (inr ends) (inl done) = absurd ends.2
   serve_run Usage (inl ends) (inl done) = absurd ends.0

@@ -121,7 +121,7 @@ module _ (config : Config) (from : Standing) (headers : List HeaderSpan) (spans 
       whole : length takes.got ≡ left
       whole = omega (arith, takes.sum, none)
 
-      message : Message
+      pub message : Message
       message = Good (h config from headers spans used left r is extends)
           (body config from headers spans used left r is extends takes.got)
 

@@ -1,5 +1,7 @@
 use Rattle.std.proofs.Common.{◌≡◌, ◌++◌, ◌∷◌, ◌∙◌, [], IsTrue, rules, sym, ap, subst}
 use Rattle.glacier_disk.specs.Told.{Listener}
+use Rattle.std.specs.Prelude.{None}
+use Rattle.glacier_store.specs.Quotas.{over_quota}
 use Rattle.glacier_cli.specs.Forms.{serve_words}
 use Rattle.glacier_cli.specs.Program.{FolderEnds}
 use Rattle.glacier_cli.specs.StationUse.{OpensAll, station_use}
@@ -21,6 +23,7 @@ returns-then-is_err-clause-headline g c t =
 
 pub returns-in-Ok-serve-clause-ends : goal.returns-in-Ok-serve-clause-ends
 returns-in-Ok-serve-clause-ends g c =
+    let within : over_quota c.args.ring c.in-Ok.store.accounts ≡ None = sym c.first_over.ensures ∙ c.in-None.is in
     let old = g.S.Disk.told c.args.station.now in
     let mid = g.S.Disk.told c.begin.new.disk in
     let listened = g.S.Disk.told c.listen.new.self in
@@ -38,12 +41,13 @@ returns-in-Ok-serve-clause-ends g c =
         disk = shows.1 ∙ call.disk.faults ∙ c.in-Ok.ensures.counts;
         listener = shows.0 ∙ faults ∙ ap (λ (l : Listener). l.faults) alone.listener;
       },
-      λ t. serves_at g.S.Disk.tells c.args.ring words c.in-Ok.store (before t) (c.in-Ok.ensures.begins t).starts c.config_of-config.ensures
-          (still_kept call.disk.rests.crash (c.in-Ok.ensures.begins t).kept) (opens t) (c.in-Ok-serve.ensures.served t) (c.in-Ok-serve.ensures.fewer t),
+      λ t. serves_at g.S.Disk.tells c.args.ring words c.in-Ok.store (before t) (c.in-Ok.ensures.begins t).starts within c.config_of-config.ensures
+          (λ state from. still_kept call.disk.rests.crash ((c.in-Ok.ensures.begins t).kept state from)) (opens t) (c.in-Ok-serve.ensures.served t) (c.in-Ok-serve.ensures.fewer t),
     )
 
 pub returns-in-Ok-serve-clause-headline : goal.returns-in-Ok-serve-clause-headline
 returns-in-Ok-serve-clause-headline g c t =
+    let within : over_quota c.args.ring c.in-Ok.store.accounts ≡ None = sym c.first_over.ensures ∙ c.in-None.is in
     let old = g.S.Disk.told c.args.station.now in
     let mid = g.S.Disk.told c.begin.new.disk in
     let listened = g.S.Disk.told c.listen.new.self in
@@ -52,10 +56,11 @@ returns-in-Ok-serve-clause-headline g c t =
     let alone = g.met.S.Disk.by_disk_keeps c.args.station.now c.begin.new.disk c.begin.ensures.alone in
     let begins = c.in-Ok.ensures.begins t in
     served_on g.S.Disk.tells c.args.ring words (before_listen (before_begin (g.met.S.Disk.lawful t c.args.station.now) alone begins) call)
-    c.in-Ok.store begins.starts begins.found c.config_of-config.ensures (c.serve.ensures.headline t (still_kept call.disk.rests.crash begins.kept))
+    c.in-Ok.store begins.starts within c.config_of-config.ensures (λ state from. c.serve.ensures.headline t state (still_kept call.disk.rests.crash (begins.kept state from)))
 
 pub returns-clause-ends : goal.returns-clause-ends
 returns-clause-ends g c =
+    let within : over_quota c.args.ring c.in-Ok.store.accounts ≡ None = sym c.first_over.ensures ∙ c.in-None.is in
     let old = g.S.Disk.told c.args.station.now in
     let mid = g.S.Disk.told c.begin.new.disk in
     let listened = g.S.Disk.told c.listen.new.self in
@@ -69,11 +74,12 @@ returns-clause-ends g c =
     let opens : IsTrue g.S.Disk.tells → OpensAll (station_use g.S.Disk.tells old (g.S.Disk.told c.serve.new.station)) words = λ t. opens_all g.S.Disk.tells words (c.in-Ok.ensures.begins t).opens alone.listener call.disk (named t) c.serve.ensures.kept in
     subst (FolderEnds (station_use g.S.Disk.tells old (g.S.Disk.told c.serve.new.station)) c.args.ring words) (sym c.server_ending.ensures)
     (fault_ends g.S.Disk.tells c.args.ring words c.in-Ok.store c.in-Err-serve.fault c.config_of-config.ensures
-    before (λ t. (c.in-Ok.ensures.begins t).starts) (call.disk.faults ∙ c.in-Ok.ensures.counts) (faults ∙ ap (λ (l : Listener). l.faults) alone.listener)
+    before (λ t. (c.in-Ok.ensures.begins t).starts) within (call.disk.faults ∙ c.in-Ok.ensures.counts) (faults ∙ ap (λ (l : Listener). l.faults) alone.listener)
     opens c.in-Err-serve.ensures.broken c.in-Err-serve.ensures.fault)
 
 pub returns-clause-headline : goal.returns-clause-headline
 returns-clause-headline g c t =
+    let within : over_quota c.args.ring c.in-Ok.store.accounts ≡ None = sym c.first_over.ensures ∙ c.in-None.is in
     let old = g.S.Disk.told c.args.station.now in
     let mid = g.S.Disk.told c.begin.new.disk in
     let listened = g.S.Disk.told c.listen.new.self in
@@ -82,4 +88,4 @@ returns-clause-headline g c t =
     let alone = g.met.S.Disk.by_disk_keeps c.args.station.now c.begin.new.disk c.begin.ensures.alone in
     let begins = c.in-Ok.ensures.begins t in
     served_on g.S.Disk.tells c.args.ring words (before_listen (before_begin (g.met.S.Disk.lawful t c.args.station.now) alone begins) call)
-    c.in-Ok.store begins.starts begins.found c.config_of-config.ensures (c.serve.ensures.headline t (still_kept call.disk.rests.crash begins.kept))
+    c.in-Ok.store begins.starts within c.config_of-config.ensures (λ state from. c.serve.ensures.headline t state (still_kept call.disk.rests.crash (begins.kept state from)))

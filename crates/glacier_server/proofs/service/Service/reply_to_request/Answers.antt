@@ -1,4 +1,4 @@
-use Rattle.std.proofs.Common.{rules, Err, ℕ, ◌≡◌, ◌≤◌, List, [], sym, ap, subst, ◌∙◌}
+use Rattle.std.proofs.Common.{arith, rules, Err, ℕ, ◌≡◌, ◌≤◌, List, [], sym, ap, subst, ◌∙◌}
 use Rattle.std.proofs.lemmas.Result.{IfOk-weaker}
 use Rattle.glacier_machine.specs.Moments.{moment_change}
 use Rattle.glacier_machine.specs.Outcomes.{Outcome, moment_of, rules_of}
