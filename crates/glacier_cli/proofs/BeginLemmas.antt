@@ -39,8 +39,8 @@ made_in_order (fault.End length) (inr (inr (other, most, is))) creates order = a
 -- a store that is made
 pub created : {old new : Told} (result : Result Store StoreFault) → IfErr result IsNotMade
     → IfOk result HoldsNothing → Creates old new result → Begins true old new result
-created (Ok it) other nothing creates = record {
-  kept = λ state from. subst (λ (s : State). Kept _ it s) (sym from.1) creates.kept;
+created {new = new} (Ok it) other nothing creates = record {
+  kept = λ state from. subst (λ (s : State). Kept new it s) (sym from.1) creates.kept;
   starts = ((creates.empty, nothing.accounts), nothing.length);
   found = λ accounts from. nothing.accounts ∙ sym from.1;
   refuses = λ area at is. absurd (cc);

@@ -53,7 +53,7 @@ module _ (tells : Bool) {old mid : Told} (ring : List Entry) (words : ServeWords
     read = comes.read ∙ ap (λ (l : List ℕ). l ++ readings_of sessions) x.readings;
   }
 
-  holds : {new : Told} → Holds (station_use tells old new) ring words
+  abbrev holds : {new : Told} → Holds (station_use tells old new) ring words
   holds = record { store = store; starts = starts; within = within }
 
   serves_from : {new : Told} {config : Config} {count : ℕ} → config ≡ config_of ring words
@@ -83,7 +83,7 @@ module _ (tells : Bool) {old mid : Told} (ring : List Entry) (words : ServeWords
       let one = given (record { accounts = store.accounts; bodies = map.empty }) refl in
       record {
         opens = opens;
-        holds = holds;
+        holds = holds {new = new};
         serves = λ state same. let s = given state same in serves_from is begun state (placed_as after s.0) s.1;
         left = sym x.to_come ∙ one.1.fewer;
         fewer = fewer;
@@ -107,7 +107,7 @@ module _ (tells : Bool) {old mid : Told} (ring : List Entry) (words : ServeWords
   serves_till : {new : Told} {config : Config} {fault : ServeFault} → config ≡ config_of ring words
       → ((state : State) → store.accounts ≡ state.accounts → Breaks config mid new (placed_as store state) words.connections fault)
       → ServesTill (station_use tells old new) ring words fault
-  serves_till is given = record { holds = holds; serves = λ state same. till_from is state (given state same) }
+  serves_till {new = new} is given = record { holds = holds {new = new}; serves = λ state same. till_from is state (given state same) }
 
   breaks_at : {new : Told} {config : Config} {fault : ServeFault} → config ≡ config_of ring words
       → OpensAll (station_use tells old new) words → Broken config mid new store words.connections fault

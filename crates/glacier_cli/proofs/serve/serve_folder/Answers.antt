@@ -1,4 +1,4 @@
-use Rattle.std.proofs.Common.{◌≡◌, ◌++◌, ◌∷◌, ◌∙◌, [], IsTrue, rules, sym, ap, subst}
+use Rattle.std.proofs.Common.{◌≡◌, ◌++◌, ◌∷◌, ◌∙◌, [], IsTrue, inr, rules, sym, ap, subst}
 use Rattle.glacier_disk.specs.Told.{Listener}
 use Rattle.std.specs.Prelude.{None}
 use Rattle.glacier_store.specs.Quotas.{over_quota}
@@ -23,7 +23,7 @@ returns-then-is_err-clause-headline g c t =
 
 pub returns-in-Ok-serve-clause-ends : goal.returns-in-Ok-serve-clause-ends
 returns-in-Ok-serve-clause-ends g c =
-    let within : over_quota c.args.ring c.in-Ok.store.accounts ≡ None = sym c.first_over.ensures ∙ c.in-None.is in
+    let within : over_quota c.args.ring c.in-Ok.store.accounts ≡ None = sym c.first_over.ensures ∙ c.in_default.is in
     let old = g.S.Disk.told c.args.station.now in
     let mid = g.S.Disk.told c.begin.new.disk in
     let listened = g.S.Disk.told c.listen.new.self in
@@ -47,7 +47,7 @@ returns-in-Ok-serve-clause-ends g c =
 
 pub returns-in-Ok-serve-clause-headline : goal.returns-in-Ok-serve-clause-headline
 returns-in-Ok-serve-clause-headline g c t =
-    let within : over_quota c.args.ring c.in-Ok.store.accounts ≡ None = sym c.first_over.ensures ∙ c.in-None.is in
+    let within : over_quota c.args.ring c.in-Ok.store.accounts ≡ None = sym c.first_over.ensures ∙ c.in_default.is in
     let old = g.S.Disk.told c.args.station.now in
     let mid = g.S.Disk.told c.begin.new.disk in
     let listened = g.S.Disk.told c.listen.new.self in
@@ -60,7 +60,7 @@ returns-in-Ok-serve-clause-headline g c t =
 
 pub returns-clause-ends : goal.returns-clause-ends
 returns-clause-ends g c =
-    let within : over_quota c.args.ring c.in-Ok.store.accounts ≡ None = sym c.first_over.ensures ∙ c.in-None.is in
+    let within : over_quota c.args.ring c.in-Ok.store.accounts ≡ None = sym c.first_over.ensures ∙ c.in_default.is in
     let old = g.S.Disk.told c.args.station.now in
     let mid = g.S.Disk.told c.begin.new.disk in
     let listened = g.S.Disk.told c.listen.new.self in
@@ -79,7 +79,7 @@ returns-clause-ends g c =
 
 pub returns-clause-headline : goal.returns-clause-headline
 returns-clause-headline g c t =
-    let within : over_quota c.args.ring c.in-Ok.store.accounts ≡ None = sym c.first_over.ensures ∙ c.in-None.is in
+    let within : over_quota c.args.ring c.in-Ok.store.accounts ≡ None = sym c.first_over.ensures ∙ c.in_default.is in
     let old = g.S.Disk.told c.args.station.now in
     let mid = g.S.Disk.told c.begin.new.disk in
     let listened = g.S.Disk.told c.listen.new.self in
@@ -89,3 +89,25 @@ returns-clause-headline g c t =
     let begins = c.in-Ok.ensures.begins t in
     served_on g.S.Disk.tells c.args.ring words (before_listen (before_begin (g.met.S.Disk.lawful t c.args.station.now) alone begins) call)
     c.in-Ok.store begins.starts within c.config_of-config.ensures (λ state from. c.serve.ensures.headline t state (still_kept call.disk.rests.crash (begins.kept state from)))
+
+pub returns-in-Some-clause-ends : goal.returns-in-Some-clause-ends
+returns-in-Some-clause-ends g c =
+    let alone = g.met.S.Disk.by_disk_keeps c.args.station.now c.begin.new.disk c.begin.ensures.alone in (
+      record { disk = c.in-Ok.ensures.counts; listener = ap (λ (l : Listener). l.faults) alone.listener },
+      λ t. record {
+        opens = record {
+          folder = inr (c.in-Ok.ensures.begins t).opens;
+          address = ap (λ (l : Listener). l.addresses) alone.listener;
+        };
+        none = record { connections = alone.connections; readings = alone.readings };
+        store = c.in-Ok.store;
+        starts = (c.in-Ok.ensures.begins t).starts;
+        first = sym c.first_over.ensures ∙ c.in-Some.is;
+      },
+    )
+
+pub returns-in-Some-clause-headline : goal.returns-in-Some-clause-headline
+returns-in-Some-clause-headline g c t =
+    let alone = g.met.S.Disk.by_disk_keeps c.args.station.now c.begin.new.disk c.begin.ensures.alone in
+    none_came g.S.Disk.tells c.args.ring (serve_words c.args.serving.now)
+    (before_begin (g.met.S.Disk.lawful t c.args.station.now) alone (c.begin.ensures.begins t))
