@@ -21,19 +21,23 @@ reply_to_message-replied-requires-clause-good g c = good_of c.args.buffers.now.u
 
 pub returns-in-Err-clause-exchange : goal.returns-in-Err-clause-exchange
 returns-in-Err-clause-exchange g c t state same =
-    let failed = c.in-Err.ensures.failed t in
-    (state, body_failed c.args.self.now.config.now (standing c.args.count c.args.buffers.now.unread (placed_as c.args.store state)) c.args.buffers.now.head c.args.spans.now _ _ c.requires.good
-    (extends_by _ _ _ _ _ c.count-length.ensures.same c.extent_of-extent.ensures.used c.extent_of-extent.ensures.left)
-    (λ placed. reads placed c.now-reading.result c.now-reading.ensures.call
-    (c.now-reading.ensures.reading t)) failed.2 failed.1 _ refl)
+    let failed = c.in-Err.ensures.failed t in (
+      state,
+      body_failed c.args.self.now.config.now (standing c.args.count c.args.buffers.now.unread (placed_as c.args.store state)) c.args.buffers.now.head c.args.spans.now _ _ c.requires.good
+          (extends_by _ _ _ _ _ c.count-length.ensures.same c.extent_of-extent.ensures.used c.extent_of-extent.ensures.left)
+          (λ placed. reads placed c.now-reading.result c.now-reading.ensures.call
+          (c.now-reading.ensures.reading t)) failed.2 failed.1 _ refl,
+    )
 
 pub returns-then-left-gt0-clause-exchange : goal.returns-then-left-gt0-clause-exchange
-returns-then-left-gt0-clause-exchange g c t state same =
-    (state, body_cut c.args.self.now.config.now (standing c.args.count c.args.buffers.now.unread (placed_as c.args.store state)) c.args.buffers.now.head c.args.spans.now _ _ c.requires.good
-    (extends_by _ _ _ _ _ c.count-length.ensures.same c.extent_of-extent.ensures.used c.extent_of-extent.ensures.left)
-    (λ placed. reads placed c.now-reading.result c.now-reading.ensures.call (c.now-reading.ensures.reading t))
-    (c.in-Ok.ensures.takes t).rest
-    c.if-left-gt0.true (c.in-Ok.ensures.end t c.if-left-gt0.true) _ c.count-length.ensures.same _ refl)
+returns-then-left-gt0-clause-exchange g c t state same = (
+  state,
+  body_cut c.args.self.now.config.now (standing c.args.count c.args.buffers.now.unread (placed_as c.args.store state)) c.args.buffers.now.head c.args.spans.now _ _ c.requires.good
+      (extends_by _ _ _ _ _ c.count-length.ensures.same c.extent_of-extent.ensures.used c.extent_of-extent.ensures.left)
+      (λ placed. reads placed c.now-reading.result c.now-reading.ensures.call (c.now-reading.ensures.reading t))
+      (c.in-Ok.ensures.takes t).rest
+      c.if-left-gt0.true (c.in-Ok.ensures.end t c.if-left-gt0.true) _ c.count-length.ensures.same _ refl,
+)
 
 pub returns-in-Err-replied-clause-broken : goal.returns-in-Err-replied-clause-broken
 returns-in-Err-replied-clause-broken g c t state same =
@@ -56,40 +60,44 @@ returns-in-Ok-send_reply-clause-exchange g c t state same =
     let kept : c.front_of-kept.result.now ≡ take c.args.spans.now.content_length c.take_body.new.buffer = c.front_of-kept.ensures ∙ ap (λ (l : List ℕ). take c.args.spans.now.content_length l) (c.deref.ensures.value ∙ written _ _ _ (search rules)) in
     let flag : c.is_some.result ≡ is_some c.good_end-end.result = search rules in
     let law = g.met.S.Disk.lawful t c.reply_to_message-replied.new.disk in
-    let alone = g.met.S.Disk.by_disk_keeps c.take_body.new.station c.reply_to_message-replied.new.disk c.reply_to_message-replied.ensures.alone in
-    (_, reply_sent c.args.self.now.config.now (standing c.args.count c.args.buffers.now.unread (placed_as c.args.store state)) c.args.buffers.now.head c.args.spans.now _ _ c.requires.good
-    (extends_by _ _ _ _ _ c.count-length.ensures.same c.extent_of-extent.ensures.used c.extent_of-extent.ensures.left)
-    (λ placed. reads placed c.now-reading.result c.now-reading.ensures.call (c.now-reading.ensures.reading t))
-    (c.in-Ok.ensures.takes t).rest (omega (arith, c.if-left-gt0.false))
-    c.good_end-end.result c.front_of-kept.result.now
-    (kept_body c.args.self.now.config.now (standing c.args.count c.args.buffers.now.unread (placed_as c.args.store state)) c.args.buffers.now.head c.args.spans.now _ _ c.now-reading.result c.requires.good
-    (extends_by _ _ _ _ _ c.count-length.ensures.same c.extent_of-extent.ensures.used c.extent_of-extent.ensures.left)
-    _ c.bytes.result.now c.bytes.ensures.same _ (subst (λ (l : List ℕ). IsBodyKept l (take (c.extent_of-extent.result.used - c.args.spans.now.head_length)
-    (drop c.args.spans.now.head_length c.bytes.result.now) ++ (c.in-Ok.ensures.takes t).rest.got)) (sym kept) ((c.in-Ok.ensures.takes t).keeps (omega (arith, c.if-left-gt0.false)))))
-    c.good_end-end.ensures.end c.good_end-end.ensures.of_none c.is_some.result flag law alone
-    c.in-Ok-replied.replied (answers_by c.args.self.now.config.now c.args.spans.now c.in-Ok-replied.replied.0 same c.in-Ok-replied.ensures.reply)
-    (keeps_by c.args.self.now.config.now c.args.spans.now c.args.store (Ok c.in-Ok-replied.replied) same (c.in-Ok-replied.ensures.keeps t))
-    (c.in-Ok-send_reply.ensures.sent t) _ refl c.skip.ensures)
+    let alone = g.met.S.Disk.by_disk_keeps c.take_body.new.station c.reply_to_message-replied.new.disk c.reply_to_message-replied.ensures.alone in (
+      _,
+      reply_sent c.args.self.now.config.now (standing c.args.count c.args.buffers.now.unread (placed_as c.args.store state)) c.args.buffers.now.head c.args.spans.now _ _ c.requires.good
+          (extends_by _ _ _ _ _ c.count-length.ensures.same c.extent_of-extent.ensures.used c.extent_of-extent.ensures.left)
+          (λ placed. reads placed c.now-reading.result c.now-reading.ensures.call (c.now-reading.ensures.reading t))
+          (c.in-Ok.ensures.takes t).rest (omega (arith, c.if-left-gt0.false))
+          c.good_end-end.result c.front_of-kept.result.now
+          (kept_body c.args.self.now.config.now (standing c.args.count c.args.buffers.now.unread (placed_as c.args.store state)) c.args.buffers.now.head c.args.spans.now _ _ c.now-reading.result c.requires.good
+          (extends_by _ _ _ _ _ c.count-length.ensures.same c.extent_of-extent.ensures.used c.extent_of-extent.ensures.left)
+          _ c.bytes.result.now c.bytes.ensures.same _ (subst (λ (l : List ℕ). IsBodyKept l (take (c.extent_of-extent.result.used - c.args.spans.now.head_length)
+          (drop c.args.spans.now.head_length c.bytes.result.now) ++ (c.in-Ok.ensures.takes t).rest.got)) (sym kept) ((c.in-Ok.ensures.takes t).keeps (omega (arith, c.if-left-gt0.false)))))
+          c.good_end-end.ensures.end c.good_end-end.ensures.of_none c.is_some.result flag law alone
+          c.in-Ok-replied.replied (answers_by c.args.self.now.config.now c.args.spans.now c.in-Ok-replied.replied.0 same c.in-Ok-replied.ensures.reply)
+          (keeps_by c.args.self.now.config.now c.args.spans.now c.args.store (Ok c.in-Ok-replied.replied) same (c.in-Ok-replied.ensures.keeps t))
+          (c.in-Ok-send_reply.ensures.sent t) _ refl c.skip.ensures,
+    )
 
 pub returns-clause-exchange : goal.returns-clause-exchange
 returns-clause-exchange g c t state same =
     let kept : c.front_of-kept.result.now ≡ take c.args.spans.now.content_length c.take_body.new.buffer = c.front_of-kept.ensures ∙ ap (λ (l : List ℕ). take c.args.spans.now.content_length l) (c.deref.ensures.value ∙ written _ _ _ (search rules)) in
     let flag : c.is_some.result ≡ is_some c.good_end-end.result = search rules in
     let law = g.met.S.Disk.lawful t c.reply_to_message-replied.new.disk in
-    let alone = g.met.S.Disk.by_disk_keeps c.take_body.new.station c.reply_to_message-replied.new.disk c.reply_to_message-replied.ensures.alone in
-    (_, reply_unsent c.args.self.now.config.now (standing c.args.count c.args.buffers.now.unread (placed_as c.args.store state)) c.args.buffers.now.head c.args.spans.now _ _ c.requires.good
-    (extends_by _ _ _ _ _ c.count-length.ensures.same c.extent_of-extent.ensures.used c.extent_of-extent.ensures.left)
-    (λ placed. reads placed c.now-reading.result c.now-reading.ensures.call (c.now-reading.ensures.reading t))
-    (c.in-Ok.ensures.takes t).rest (omega (arith, c.if-left-gt0.false))
-    c.good_end-end.result c.front_of-kept.result.now
-    (kept_body c.args.self.now.config.now (standing c.args.count c.args.buffers.now.unread (placed_as c.args.store state)) c.args.buffers.now.head c.args.spans.now _ _ c.now-reading.result c.requires.good
-    (extends_by _ _ _ _ _ c.count-length.ensures.same c.extent_of-extent.ensures.used c.extent_of-extent.ensures.left)
-    _ c.bytes.result.now c.bytes.ensures.same _ (subst (λ (l : List ℕ). IsBodyKept l (take (c.extent_of-extent.result.used - c.args.spans.now.head_length)
-    (drop c.args.spans.now.head_length c.bytes.result.now) ++ (c.in-Ok.ensures.takes t).rest.got)) (sym kept) ((c.in-Ok.ensures.takes t).keeps (omega (arith, c.if-left-gt0.false)))))
-    c.good_end-end.ensures.end c.good_end-end.ensures.of_none c.is_some.result flag law alone
-    c.in-Ok-replied.replied (answers_by c.args.self.now.config.now c.args.spans.now c.in-Ok-replied.replied.0 same c.in-Ok-replied.ensures.reply)
-    (keeps_by c.args.self.now.config.now c.args.spans.now c.args.store (Ok c.in-Ok-replied.replied) same (c.in-Ok-replied.ensures.keeps t))
-    (c.in-Err-send_reply.ensures.failed t) _ refl)
+    let alone = g.met.S.Disk.by_disk_keeps c.take_body.new.station c.reply_to_message-replied.new.disk c.reply_to_message-replied.ensures.alone in (
+      _,
+      reply_unsent c.args.self.now.config.now (standing c.args.count c.args.buffers.now.unread (placed_as c.args.store state)) c.args.buffers.now.head c.args.spans.now _ _ c.requires.good
+          (extends_by _ _ _ _ _ c.count-length.ensures.same c.extent_of-extent.ensures.used c.extent_of-extent.ensures.left)
+          (λ placed. reads placed c.now-reading.result c.now-reading.ensures.call (c.now-reading.ensures.reading t))
+          (c.in-Ok.ensures.takes t).rest (omega (arith, c.if-left-gt0.false))
+          c.good_end-end.result c.front_of-kept.result.now
+          (kept_body c.args.self.now.config.now (standing c.args.count c.args.buffers.now.unread (placed_as c.args.store state)) c.args.buffers.now.head c.args.spans.now _ _ c.now-reading.result c.requires.good
+          (extends_by _ _ _ _ _ c.count-length.ensures.same c.extent_of-extent.ensures.used c.extent_of-extent.ensures.left)
+          _ c.bytes.result.now c.bytes.ensures.same _ (subst (λ (l : List ℕ). IsBodyKept l (take (c.extent_of-extent.result.used - c.args.spans.now.head_length)
+          (drop c.args.spans.now.head_length c.bytes.result.now) ++ (c.in-Ok.ensures.takes t).rest.got)) (sym kept) ((c.in-Ok.ensures.takes t).keeps (omega (arith, c.if-left-gt0.false)))))
+          c.good_end-end.ensures.end c.good_end-end.ensures.of_none c.is_some.result flag law alone
+          c.in-Ok-replied.replied (answers_by c.args.self.now.config.now c.args.spans.now c.in-Ok-replied.replied.0 same c.in-Ok-replied.ensures.reply)
+          (keeps_by c.args.self.now.config.now c.args.spans.now c.args.store (Ok c.in-Ok-replied.replied) same (c.in-Ok-replied.ensures.keeps t))
+          (c.in-Err-send_reply.ensures.failed t) _ refl,
+    )
 
 pub returns-in-Err-replied-clause-keeps : goal.returns-in-Err-replied-clause-keeps
 returns-in-Err-replied-clause-keeps g c =

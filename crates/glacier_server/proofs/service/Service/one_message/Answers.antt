@@ -33,10 +33,12 @@ returns-in-Err-refuse-clause-broken g c t state same =
     breaks_behind (c.in-Ok-Bad.ensures.takes t) (c.in-Err-refuse.ensures.broken t _ (refl, bad.0, bad.1))
 
 pub returns-in-Ok-Need-clause-exchange : goal.returns-in-Ok-Need-clause-exchange
-returns-in-Ok-Need-clause-exchange g c t state same =
-    (state, ends_behind c.ended.result c.ended.ensures.of_none (c.in-Ok-Need.ensures.takes t) c.ended.ensures.end
-    (subst (λ (f : HeadStep). IsStep c.next_head.new.unread c.next_head.new.room f) c.in-Ok-Need.field-0-is c.in-Ok-Need.ensures.found)
-    (c.next_head.ensures.end t (c.in-Ok-Need.is ∙ ap (λ (f : HeadStep). Ok f) c.in-Ok-Need.field-0-is)) _ refl)
+returns-in-Ok-Need-clause-exchange g c t state same = (
+  state,
+  ends_behind c.ended.result c.ended.ensures.of_none (c.in-Ok-Need.ensures.takes t) c.ended.ensures.end
+      (subst (λ (f : HeadStep). IsStep c.next_head.new.unread c.next_head.new.room f) c.in-Ok-Need.field-0-is c.in-Ok-Need.ensures.found)
+      (c.next_head.ensures.end t (c.in-Ok-Need.is ∙ ap (λ (f : HeadStep). Ok f) c.in-Ok-Need.field-0-is)) _ refl,
+)
 
 pub returns-in-Err-clause-exchange : goal.returns-in-Err-clause-exchange
 returns-in-Err-clause-exchange g c t state same = (state, fails_behind (c.in-Err.ensures.takes t) c.in-Err.ensures.need _ refl)

@@ -7,11 +7,13 @@ pub returns-in-Ok-clause-served : goal.returns-in-Ok-clause-served
 returns-in-Ok-clause-served g c t old state same_accounts opens =
     let served = c.in-Ok.ensures.served t state same_accounts in
     let last = (g.met.S.Disk.lawful t c.serve_open.new.station).connected_last c.serve_open.ensures.keeps.connected in
-    let same = c.hang_up.ensures.call.listener ∙ c.serve_open.ensures.keeps.listener in
-    (served.0, serves_one (g.S.Disk.told old) (g.S.Disk.told c.args.station.now) (g.S.Disk.told c.serve_open.new.station)
-    (g.S.Disk.told c.hang_up.new.self)
-    opens last c.hang_up.ensures.call served.1 (opens.fewer
-    ∙ ap (λ (l : Listener). 1 + l.to_come) (sym same)))
+    let same = c.hang_up.ensures.call.listener ∙ c.serve_open.ensures.keeps.listener in (
+      served.0,
+      serves_one (g.S.Disk.told old) (g.S.Disk.told c.args.station.now) (g.S.Disk.told c.serve_open.new.station)
+          (g.S.Disk.told c.hang_up.new.self)
+          opens last c.hang_up.ensures.call served.1 (opens.fewer
+          ∙ ap (λ (l : Listener). 1 + l.to_come) (sym same)),
+    )
 
 pub returns-in-Err-clause-broken : goal.returns-in-Err-clause-broken
 returns-in-Err-clause-broken g c t old state same_accounts opens =
