@@ -92,8 +92,7 @@ ServedTill config (JournalEnd end) came sessions placed after = BreaksLast confi
 ServedTill config Accept came sessions placed after = ServedAll config came sessions placed after
 
 -- some connections came, at most so many, and then the server stopped
-pub record Breaks (config : Config) (old new : Told) (placed : Placed) (most : ℕ) (fault : ServeFault)
-    : Type 0 where
+pub record Breaks (config : Config) (old new : Told) (placed : Placed) (most : ℕ) (fault : ServeFault) : Type 0 where
   pub came : List Connection
   pub sessions : List Session
   pub after : Placed
@@ -104,8 +103,7 @@ pub record Breaks (config : Config) (old new : Told) (placed : Placed) (most : �
 
 -- memory was wanting before the first connection, and nothing was done
 abbrev pub NeverBegan : ServeFault → Told → Told → Type 0
-NeverBegan fault old new =
-    (fault ≡ Memory) × (new.connections ≡ old.connections) × (new.readings ≡ old.readings)
+NeverBegan fault old new = (fault ≡ Memory) × (new.connections ≡ old.connections) × (new.readings ≡ old.readings)
 
 -- how the server stopped, from a store on with each state of its accounts
 abbrev pub Broken : Config → Told → Told → Store → ℕ → ServeFault → Type 0
@@ -125,10 +123,8 @@ pub record JustAccepted (old new : Told) (placed : Placed) : Type 0 where
 abbrev pub HasStopped : ServeFault → Told → Told → Type 0
 HasStopped Disk old new =
     (new.listener.faults ≡ old.listener.faults) × HasRisen old.disk_faults new.disk_faults
-HasStopped Memory old new =
-    (new.listener.faults ≡ old.listener.faults) × (new.disk_faults ≡ old.disk_faults)
-HasStopped (JournalEnd end) old new =
-    (new.listener.faults ≡ old.listener.faults) × (new.disk_faults ≡ old.disk_faults)
+HasStopped Memory old new = (new.listener.faults ≡ old.listener.faults) × (new.disk_faults ≡ old.disk_faults)
+HasStopped (JournalEnd end) old new = (new.listener.faults ≡ old.listener.faults) × (new.disk_faults ≡ old.disk_faults)
 HasStopped Accept old new =
     (new.listener.faults ≡ one_more old.listener.faults) × (new.disk_faults ≡ old.disk_faults)
 
