@@ -14,8 +14,6 @@ mod journal_tests;
 #[cfg(test)]
 mod plans;
 #[cfg(test)]
-mod replay_tests;
-#[cfg(test)]
 mod server_tests;
 #[cfg(test)]
 mod session_tests;

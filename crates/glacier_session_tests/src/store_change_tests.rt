@@ -85,8 +85,27 @@ fn open_and_do<D: Disk>(
     }
 }
 
+/// `v` with an inventory that was asked for at 0 and is ready at 1.
+const WAITS: Image = (
+    b"\0",
+    b"glacier journal1\x01\0\0\0\x17\x02111122223333\0\0\0\0\0\0\0\0\x01v\
+    \x01\0\0\0\x23\x0b111122223333\0\0\0\0\0\0\0\0\x01v\0\0\0\0\0\0\0\0\0\x01\0\0\0",
+    b"",
+);
+
+/// The same behind the time till Friday, 25 May 2012, 00:24:53 UTC.
+const PASSED: Image = (
+    b"\0",
+    b"glacier journal1\x01\0\0\0\x17\x02111122223333\0\0\0\0\0\0\0\0\x01v\
+    \x01\0\0\0\x23\x0b111122223333\0\0\0\0\0\0\0\0\x01v\0\0\0\0\0\0\0\0\0\x01\0\0\
+    \x01\0\0\0\x15\x01111122223333\0\0\0\0\x4f\xbe\xd1\x55\0",
+    b"",
+);
+
 /// What a disk holds, what is asked for, and what it holds then.
-const CHANGES: [(Image, &[Request], Image); 7] = [
+const CHANGES: [(Image, &[Request], Image); 9] = [
+    (WAITS, &[(true, 201)], PASSED),
+    (PASSED, &[(true, 201)], PASSED),
     (CREATED, &[(true, 201)], WITH_V),
     (CREATED, &[(true, 201), (true, 201)], WITH_V),
     (CREATED, &[(true, 201), (false, 204)], WITHOUT_V),
