@@ -1,10 +1,10 @@
 -- How many blocks there are in a set, and in runs.
-use Rattle.std.proofs.Common.{◌≡◌, ℕ, zero, suc, ◌+◌, ◌-◌, ◌<◌, ◌≤◌, min, Bool, true, false, not, ◌||◌, List, [], ◌∷◌, refl, sym, ◌∙◌, ap, ap₂, inl, inr, arith}
+use Rattle.std.proofs.Common.{◌≡◌, ℕ, zero, suc, ◌+◌, ◌-◌, ◌<◌, ◌≤◌, min, Bool, true, false, not, ◌||◌, List, [], ◌∷◌, ◌++◌, refl, sym, ◌∙◌, ap, ap₂, subst, inl, inr, arith}
 use Rattle.std.proofs.lemmas.Bool.Decides.{leb_tells}
 use Rattle.glacier_extents.specs.declared.run.Run.{Run}
 use Rattle.glacier_extents.specs.Runs.{in_run, has_block, block_count, AreDistinct, AreRuns}
-use Rattle.glacier_extents.specs.FreeRuns.{blocks}
-use Rattle.glacier_extents.proofs.RunLemmas.{none_below}
+use Rattle.glacier_extents.specs.FreeRuns.{blocks, Claims}
+use Rattle.glacier_extents.proofs.RunLemmas.{none_below, has_block-append, block_count-append}
 use Rattle.glacier_extents.proofs.FreeLemmas.{in_own}
 use Rattle.glacier_extents.proofs.TakenLemmas.{run_bounds}
 
@@ -100,3 +100,37 @@ pub free_and_used : (free used : List Run) → AreRuns 0 blocks free → AreDist
     → ((b : ℕ) → b < blocks → has_block used b ≡ not (has_block free b))
     → block_count free + block_count used ≡ blocks
 free_and_used free used are = all_blocks blocks free used (distinct_runs 0 blocks free are)
+
+one-le-or : (a b : Bool) → one (a || b) ≤ one a + one b
+one-le-or true b = omega arith
+one-le-or false b = omega arith
+
+-- of two sets, whatever they have in common
+count_either : (p q : ℕ → Bool) (n : ℕ) → count_below (λ b. p b || q b) n ≤ count_below p n + count_below q n
+count_either p q zero = omega arith
+count_either p q (suc n) = omega (arith, one-le-or (p n) (q n), count_either p q n)
+
+-- runs have no fewer blocks than there are numbers in them
+count_within : (runs : List Run) (n : ℕ) → count_below (has_block runs) n ≤ block_count runs
+count_within [] n = omega (arith, count_none n)
+count_within (run ∷ runs) n =
+    omega (arith, count_either (in_run run) (has_block runs) n, count_run run n, count_within runs n)
+
+-- runs that have each block below an end have as many
+covered : (high : ℕ) (runs : List Run) → ((b : ℕ) → b < high → has_block runs b ≡ true) → high ≤ block_count runs
+covered high runs all =
+    omega (arith, count_same (has_block runs) (λ b. true) high all, count_all high, count_within runs high)
+
+low_of : (high n b free used : ℕ) → high ≤ free + used → b + free < high + n → b < used + n
+low_of high n b free used all below = omega (arith, all, below)
+
+-- blocks that are claimed lie below as many as are in use and are now claimed, where each that isn't free is in use
+pub claimed_low : (n : ℕ) (old new claimed used : List Run) → ((b : ℕ) → b < blocks → has_block old b ≡ false → has_block used b ≡ true)
+    → Claims n old new claimed → (b : ℕ) → has_block claimed b ≡ true → b < block_count used + n
+claimed_low n old new claimed used rest claims b its =
+    let each : (c : ℕ) → c < blocks → has_block (old ++ used) c ≡ true = λ c low. has_block-append old used c ∙ either (has_block old c) (has_block used c) (rest c low) in
+    low_of blocks n b (block_count old) (block_count used) (subst (λ (count : ℕ). blocks ≤ count) (block_count-append old used) (covered blocks (old ++ used) each)) (claims.below b its)
+  where
+    either : (free in_use : Bool) → (free ≡ false → in_use ≡ true) → (free || in_use) ≡ true
+    either true in_use is = refl
+    either false in_use is = is refl

@@ -29,7 +29,7 @@ pub number_is : (number n : ℕ) → eq_by_cmp nat_cmp n number ≡ true → n �
 number_is number n t = map.nat_cmp-IsAntisymmetric n number (tied _ t)
 
 -- what is there for a number, if an account has a map
-abbrev look : {X : Type 0} → ℕ → Option (FinMap nat_cmp X) → Option X
+abbrev pub look : {X : Type 0} → ℕ → Option (FinMap nat_cmp X) → Option X
 look n r = option_and_then (λ inner. map.get inner n) r
 
 module _ {X : Type 0} where

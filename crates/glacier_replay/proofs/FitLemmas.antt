@@ -28,10 +28,10 @@ number_left a e end = at (nat_eq a.counter counter_end) refl e
     at true t h = cc
     at false t h = eqb-false a.counter counter_end t end
 
-le_of : (n m : ℕ) → nat_le n m ≡ true → n ≤ m
+pub le_of : (n m : ℕ) → nat_le n m ≡ true → n ≤ m
 le_of n m t = grind (arith, nat_tests)
 
-right_body : (size : ℕ) (leaves : List (List ℕ)) → is_body size leaves ≡ true → IsLawfulBody size leaves (root_of_digests leaves)
+pub right_body : (size : ℕ) (leaves : List (List ℕ)) → is_body size leaves ≡ true → IsLawfulBody size leaves (root_of_digests leaves)
 right_body size leaves e =
     let parts = both (nat_le 1 size) (nat_eq (length leaves) (need size)) e in
     record { some = le_of 1 size parts.0; count = eqb-true (length leaves) (need size) parts.1; root = refl }

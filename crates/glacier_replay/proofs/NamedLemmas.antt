@@ -29,7 +29,8 @@ use Rattle.glacier_replay.specs.Standing.{InVault, InAccount}
 use Rattle.glacier_replay.proofs.Options.{of_some}
 
 module _ {K X : Type 0} {R : K → K → Ordering} (o : IsTotalOrder R) (same : map.IsAntisymmetric R) (f : X → ℕ) where
-  absent : (q : K) (es : List (K × X)) → AllByRecursion (λ y. R q y ≡ Less) (keys_of es) → map.find R q es ≡ None
+  -- a key below all others has no value
+  pub absent : (q : K) (es : List (K × X)) → AllByRecursion (λ y. R q y ≡ Less) (keys_of es) → map.find R q es ≡ None
   absent q [] h = refl
   absent q (e ∷ es) h = ap (λ b. cond b (Some e.1) (map.find R q es)) (ap is_eq h.0) ∙ absent q es h.1
 

@@ -1,5 +1,5 @@
 -- An account's state is taken out of all accounts, and put back.
-use Rattle.std.specs.Prelude.{◌≡◌, ℕ, Bool, true, false, cond, List, Option, Some, None}
+use Rattle.std.specs.Prelude.{◌≡◌, ℕ, Bool, true, false, cond, List, Option, Some, None, IfSome, unwrap_or}
 use Rattle.std.specs.Prelude.{Result, Ok, Err, OnOk, OnErr}
 use Rattle.std.specs.Cmp.Lexicographic.{nat_list_cmp_total, slice_cmp}
 use Rattle.std.specs.FinMap as map
@@ -7,14 +7,24 @@ use Rattle.std.specs.Ordering.{eq_by_cmp, nat_cmp}
 use Rattle.std.proofs.Common.{◌∙◌, ap, sym, refl, subst}
 use Rattle.glacier_base.proofs.Finite.{bytes_cmp-IsAntisymmetric}
 use Rattle.glacier_base.proofs.LookUps.{if_some-empty, if_some-insert, if_some-remove}
+use Rattle.glacier_vault.specs.Account.{empty_account}
 use Rattle.glacier_vault.specs.Lawful.{IsLawful}
 use Rattle.glacier_vault.specs.declared.state.AccountState.{AccountState}
-use Rattle.glacier_vault.specs.Accounts.{Accounts, AllLawful}
+use Rattle.glacier_vault.specs.Accounts.{Accounts, AllLawful, account_in}
+use Rattle.glacier_vault.proofs.KeepsLawful.{empty_lawful}
 
 pub none_lawful : AllLawful map.empty
 none_lawful = if_some-empty (slice_cmp nat_cmp) IsLawful
 
-inserted_lawful : (accounts : Accounts) (k : List ℕ) (state : AccountState) → AllLawful accounts → IsLawful state
+-- an account is lawful, also where it was never changed
+pub lawful_in : (accounts : Accounts) → AllLawful accounts → (account : List ℕ) → IsLawful (account_in accounts account)
+lawful_in accounts lawful account = at (map.get accounts account) (lawful account)
+  where
+    at : (r : Option AccountState) → IfSome r IsLawful → IsLawful (unwrap_or r empty_account)
+    at None h = empty_lawful
+    at (Some state) h = h
+
+pub inserted_lawful : (accounts : Accounts) (k : List ℕ) (state : AccountState) → AllLawful accounts → IsLawful state
     → AllLawful (map.insert accounts k state)
 inserted_lawful accounts k state h l q =
     if_some-insert nat_list_cmp_total bytes_cmp-IsAntisymmetric (λ _. IsLawful) accounts k q state l (h q)

@@ -24,7 +24,7 @@ below high (run ∷ runs) distinct b t = at (in_run run b) refl t (below high ru
     at true e t later = omega (arith, (run_bounds run b e).1, distinct.1)
     at false e t later = later t
 
-or_either : (a b : Bool) → (a || b) ≡ true → (a ≡ true) ⊎ (b ≡ true)
+pub or_either : (a b : Bool) → (a || b) ≡ true → (a ≡ true) ⊎ (b ≡ true)
 or_either true b t = inl refl
 or_either false b t = inr t
 

@@ -34,7 +34,7 @@ use Rattle.glacier_replay.proofs.Options.{of_some, there_is}
 use Rattle.glacier_replay.proofs.WholeLemmas.{told_whole}
 
 -- an open upload, in its vault
-of_open : {P : Type 0} (a : AccountState) (name : List ℕ) (number : ℕ) (upload : Upload) → open_upload a name number ≡ Some upload
+pub of_open : {P : Type 0} (a : AccountState) (name : List ℕ) (number : ℕ) (upload : Upload) → open_upload a name number ≡ Some upload
     → ((vault : VaultState) → map.get a.vaults name ≡ Some vault → map.get vault.uploads number ≡ Some upload → P) → P
 of_open {P} a name number upload e f = at (map.get a.vaults name) refl e
   where

@@ -26,10 +26,10 @@ use Rattle.glacier_replay.proofs.BlobMaps.{number_is}
 use Rattle.glacier_replay.proofs.NamedLemmas.{value_within}
 
 -- the first of some numbers stands among them, and so do the others
-among_first : (k : ℕ) (ks : List ℕ) → 1 ≤ times_in k (k ∷ ks)
+pub among_first : (k : ℕ) (ks : List ℕ) → 1 ≤ times_in k (k ∷ ks)
 among_first k ks = omega (arith, sum_by-cons (λ (j : ℕ). cond {A = ℕ} (nat_eq j k) 1 0) k ks, ap (λ b. cond {A = ℕ} b 1 0) (eq-eqb k k refl))
 
-among_more : (n k : ℕ) (ks : List ℕ) → times_in n ks ≤ times_in n (k ∷ ks)
+pub among_more : (n k : ℕ) (ks : List ℕ) → times_in n ks ≤ times_in n (k ∷ ks)
 among_more n k ks = omega (arith, sum_by-cons (λ (j : ℕ). cond {A = ℕ} (nat_eq j n) 1 0) k ks)
 
 -- what stands nowhere isn't found, and what isn't found stands nowhere

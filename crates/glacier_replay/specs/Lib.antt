@@ -2,6 +2,7 @@ pub mod AccountsCode
 pub mod Changes
 pub mod Freed
 pub mod Held
+pub mod InUse
 pub mod Made
 pub mod PolicyCode
 pub mod Replayed

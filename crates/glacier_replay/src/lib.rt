@@ -6,6 +6,7 @@ mod accounts;
 mod archives;
 mod blocks;
 mod bodies;
+pub mod in_use;
 mod jobs;
 pub mod laws;
 mod locks;

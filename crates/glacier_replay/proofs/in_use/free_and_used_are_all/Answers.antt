@@ -1,0 +1,5 @@
+use Rattle.glacier_replay.proofs.InUseLemmas.{free_and_used_all}
+use Rattle.glacier_replay.proofs.in_use.free_and_used_are_all.Goals as goal
+
+pub returns : goal.returns
+returns c = free_and_used_all
