@@ -3,7 +3,7 @@ use glacier_base::{Description, VaultName};
 use glacier_vault::Tier;
 
 /// A job that is asked for.
-#[derive(Drop)]
+#[derive(Clone, Copy)]
 pub struct JobAsk {
     pub vault: VaultName,
     pub tier: Tier,

@@ -2,7 +2,7 @@
 use glacier_base::{Description, Digest, List, VaultName};
 
 /// A single upload: a whole archive of `size` bytes with these digests.
-#[derive(Drop)]
+#[derive(Clone, Copy)]
 pub struct UploadAsk {
     pub vault: VaultName,
     pub description: Description,

@@ -1,8 +1,7 @@
 // What a body is held to before it is taken, and after.
-ghost use Rattle.std.specs.Prelude.{◌≡◌, ◌≤◌, ◌<◌, length};
+ghost use Rattle.std.specs.Prelude.{◌≡◌, ◌<◌, ◌+◌, nat_lt, length};
 ghost use Rattle.glacier_treehash.specs.Roots.{root_of_digests};
 ghost use Rattle.glacier_vault.specs.Lawful.{IsLawful};
-ghost use Rattle.glacier_vault.specs.Totals.{used_in};
 ghost use Rattle.glacier_upload.specs.Bodies.{room_refusal, body_refusal};
 
 use crate::asks::Found;
@@ -10,18 +9,21 @@ use glacier_base::{Digest, List};
 use glacier_treehash::root_of;
 use glacier_vault::{AccountState, Refusal, blocks_of, refuse_draw, used};
 
-/// The most blocks of 1 MiB that all accounts together may use.
-pub const MOST_BLOCKS: u64 = 1_048_576;
+/// Whether so many blocks more are above a quota.
+fn is_above(quota: u64, used: u64, need: u64) -> bool
+    ensures { result ≡ nat_lt quota (used + need) }
+{
+    need > quota || used > quota - need
+}
 
 /// Why a body of this size isn't taken: there is no room, or no number left to draw.
 pub(crate) fn refuse_room(state: &AccountState, quota: u64, size: u64) -> Option<Refusal>
     requires lawful { IsLawful state.now }
-    requires used { used_in state.now.vaults ≤ MOST_BLOCKS }
     ensures { result ≡ room_refusal quota state.now size }
 {
     let used = used(state);
     let need = blocks_of(size);
-    if used + need > quota {
+    if is_above(quota, used, need) {
         return Some(Refusal::NoRoom { used, need, quota });
     }
     refuse_draw(state)

@@ -18,7 +18,6 @@ pub use aborting::{abort, take_upload};
 pub use archives::put_archive;
 pub use asks::{Found, PartAsk, UploadAsk};
 pub use beginning::{MOST_UPLOADS, allows_part_size, begin, put_upload};
-pub use bodies::MOST_BLOCKS;
 pub use completion::{complete, finish_upload};
 pub use listing::{list_parts, list_uploads};
 pub use parts::{admit_part, commit_part, put_part};

@@ -2,11 +2,11 @@
 ghost use Rattle.std.specs.Prelude.{◌≡◌, ◌≤◌, ◌<◌, ◌+◌, IfOk, OnOk, length};
 ghost use Rattle.glacier_vault.specs.Lawful.{IsLawful};
 ghost use Rattle.glacier_vault.specs.Rows.{answer, state_after, in_vault, drawn};
-ghost use Rattle.glacier_vault.specs.Totals.{need, used_in};
+ghost use Rattle.glacier_vault.specs.Totals.{need};
 ghost use Rattle.glacier_upload.specs.Parts.{is_misplaced, part_refusal, IsPartAdmitted, IsNewPart, with_part, in_upload, replaced, replaced_blob, replaced_room, replaced_length, part_row};
 
 use crate::asks::{Found, PartAsk};
-use crate::bodies::{MOST_BLOCKS, refuse_body, refuse_room};
+use crate::bodies::{refuse_body, refuse_room};
 use glacier_base::{List, Memory, Moment, VaultName};
 use glacier_vault::{
     AccountState, Change, Event, Part, Refusal, Rules, Upload, blocks_of, length_with_part,
@@ -30,8 +30,6 @@ fn is_out_of_place(upload: &Upload, ask: &PartAsk) -> bool
 /// `NoRoom`, `CounterEnd`. The first of them counts.
 pub fn admit_part(state: &AccountState, rules: &Rules, ask: &PartAsk) -> Option<Refusal>
     requires lawful { IsLawful state.now }
-    requires used { used_in state.now.vaults ≤ MOST_BLOCKS }
-    requires quota { rules.now.quota ≤ MOST_BLOCKS }
     requires some { 1 ≤ ask.now.size }
     ensures { result ≡ part_refusal rules.now.quota state.now ask.now }
 {

@@ -2,12 +2,12 @@
 ghost use Rattle.std.specs.Prelude.{◌≡◌, ◌≤◌, IfOk, OnOk, length};
 ghost use Rattle.glacier_vault.specs.Lawful.{IsLawful};
 ghost use Rattle.glacier_vault.specs.Rows.{answer, state_after};
-ghost use Rattle.glacier_vault.specs.Totals.{need, used_in};
+ghost use Rattle.glacier_vault.specs.Totals.{need};
 ghost use Rattle.glacier_upload.specs.Single.{upload_refusal, IsAdmitted, upload_row};
 
 use crate::archives::put_archive;
 use crate::asks::{Found, UploadAsk};
-use crate::bodies::{MOST_BLOCKS, refuse_body, refuse_room};
+use crate::bodies::{refuse_body, refuse_room};
 use glacier_base::{List, Memory, Moment};
 use glacier_vault::{AccountState, Archive, Change, Event, Refusal, Rules};
 use std::alloc::Global;
@@ -19,8 +19,6 @@ pub const MOST_BYTES: u64 = 4_294_967_296;
 /// `CounterEnd`. The first of them counts.
 pub fn admit_upload(state: &AccountState, rules: &Rules, ask: &UploadAsk) -> Option<Refusal>
     requires lawful { IsLawful state.now }
-    requires used { used_in state.now.vaults ≤ MOST_BLOCKS }
-    requires quota { rules.now.quota ≤ MOST_BLOCKS }
     ensures { result ≡ upload_refusal rules.now.quota state.now ask.now }
 {
     if !state.vaults.contains(&ask.vault) {
