@@ -29,25 +29,24 @@ signer_is head length body request None (Ok signer) is =
     ap (λ (r : Request). Ok r.account) same
 signer_is head length body request None (Err fault) is = cc
 
-events_hold : (P : List ℕ → Type 0) (account : List ℕ) (m : ℕ) (event : Option Event) → P account
-    → All (λ (e : AccountEvent). P e.account) (events_of account m event)
-events_hold P account m None holds = All-nil (λ (e : AccountEvent). P e.account)
-events_hold P account m (Some event) holds =
-    All-cons (λ (e : AccountEvent). P e.account) (record { account = account; moment = m; event = event; body = [] }) [] holds
+events_hold : (P : List ℕ → Type 0) (account : List ℕ) (m : ℕ) (event : Option Event) (body : List ℕ) → P account
+    → All (λ (e : AccountEvent). P e.account) (events_of account m event body)
+events_hold P account m None body holds = All-nil (λ (e : AccountEvent). P e.account)
+events_hold P account m (Some event) body holds =
+    All-cons (λ (e : AccountEvent). P e.account) (record { account = account; moment = m; event = event; body = body }) [] holds
     (All-nil (λ (e : AccountEvent). P e.account))
 
 -- the events of a request are on its account
-request_holds : (P : List ℕ → Type 0) (rules : Rules) (before : AccountState) (request : Request) (reading : ℕ)
-    → P request.account
-    → All (λ (e : AccountEvent). P e.account) (outcome_events (action_outcome rules before request reading))
-request_holds P rules before request reading holds =
+request_holds : (P : List ℕ → Type 0) (rules : Rules) (before : AccountState) (request : Request) (body : List ℕ)
+    (reading : ℕ) → P request.account
+    → All (λ (e : AccountEvent). P e.account) (outcome_events (action_outcome rules before request body reading))
+request_holds P rules before request body reading holds =
     let m = moment_of before reading in
-    All-append (λ (e : AccountEvent). P e.account) (events_of request.account m (moment_change m before).event)
-    (events_of request.account m
-    (asked_step rules m request.asked (after_moment m before)).answer.change.event)
-    (events_hold P request.account m (moment_change m before).event holds)
-    (events_hold P request.account m
-    (asked_step rules m request.asked (after_moment m before)).answer.change.event holds)
+    let step = asked_step rules m request.asked body (after_moment m before) in
+    All-append (λ (e : AccountEvent). P e.account) (events_of request.account m (moment_change m before).event [])
+    (events_of request.account m step.answer.change.event step.stored)
+    (events_hold P request.account m (moment_change m before).event [] holds)
+    (events_hold P request.account m step.answer.change.event step.stored holds)
 
 pub events_are_signed : (config : Config) (accounts : Accounts) (message : Message) (reading : ℕ)
     → All (λ (e : AccountEvent). IsSignedBy config message reading e.account)
@@ -58,11 +57,11 @@ events_are_signed config accounts (good h body) reading = go (request_in config 
   where
     go : (r : Result Request Refusal) → request_in config (text_of h) body reading ≡ r
         → All (λ (e : AccountEvent). IsSignedBy config (good h body) reading e.account)
-        (outcome_events (request_outcome config accounts r reading))
+        (outcome_events (request_outcome config accounts r body reading))
     go (Err refusal) is = All-nil (λ (e : AccountEvent). IsSignedBy config (good h body) reading e.account)
     go (Ok request) is =
         request_holds (IsSignedBy config (good h body) reading) (rules_of config request.account)
-        (account_in accounts request.account) request reading (record {
+        (account_in accounts request.account) request body reading (record {
           head = h;
           body = body;
           message_is = refl;
@@ -70,15 +69,21 @@ events_are_signed config accounts (good h body) reading = go (request_in config 
               (signer_of config (text_of h) body reading) is;
         })
 
-module _ (rules : Rules) (before : AccountState) (request : Request) (reading : ℕ) (refusal : Refusal)
-    (is : request.asked ≡ Err refusal) where
+module _ (rules : Rules) (before : AccountState) (request : Request) (body : List ℕ) (reading : ℕ) where
   abbrev m : ℕ
   m = moment_of before reading
 
-  -- a refused request has no event of its own
-  pub refused_does_nothing : (action_outcome rules before request reading).done ≡ []
-  refused_does_nothing =
-      ap (λ asked. events_of request.account m (asked_step rules m asked (after_moment m before)).answer.change.event) is
+  -- the events of time are those of the moment
+  pub time_passes : (action_outcome rules before request body reading).passed
+      ≡ events_of request.account m (moment_change m before).event []
+  time_passes = refl
 
-  pub refused_gets_its_reply : (action_outcome rules before request reading).reply ≡ refused refusal
-  refused_gets_its_reply = ap (λ asked. (asked_step rules m asked (after_moment m before)).answer.reply) is
+  module _ (refusal : Refusal) (is : request.asked ≡ Err refusal) where
+    -- a refused request has no event of its own
+    pub refused_does_nothing : (action_outcome rules before request body reading).done ≡ []
+    refused_does_nothing =
+        ap (λ asked. events_of request.account m (asked_step rules m asked body (after_moment m before)).answer.change.event
+        (asked_step rules m asked body (after_moment m before)).stored) is
+
+    pub refused_gets_its_reply : (action_outcome rules before request body reading).reply ≡ refused refusal
+    refused_gets_its_reply = ap (λ asked. (asked_step rules m asked body (after_moment m before)).answer.reply) is

@@ -1,12 +1,12 @@
 pub mod AsciiLemmas
+pub mod AskedAscii
 pub mod AskLemmas
+pub mod BulkLemmas
 pub mod EventLemmas
 pub mod HeaderLemmas
 pub mod JobLemmas
 pub mod OutputLemmas
-pub mod PathLemmas
 pub mod RefusalLemmas
 pub mod RequestLemmas
-pub mod RouteLemmas
 pub mod RowLaws
 pub mod RowSteps

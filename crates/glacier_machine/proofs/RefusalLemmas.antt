@@ -9,14 +9,17 @@ use Rattle.glacier_http.specs.Fields.{values_of}
 use Rattle.glacier_http.specs.View.{HeadText, HasNames}
 use Rattle.glacier_machine.specs.ContentHash.{hash_name, named_hashes, need_refusal, digest_refusal, hash_refusal, length_refusal, mismatch, content_refusal}
 use Rattle.glacier_replies.specs.Messages.{HasAsciiText}
-use Rattle.glacier_machine.specs.Requests.{account_refusal, token_refusal, version_refusal, first_of_two, fields_refusal, body_refusal, request_refusal, unless, action_of}
-use Rattle.glacier_machine.specs.Routes.{route_of}
+use Rattle.glacier_machine.specs.Requests.{account_refusal, token_refusal, version_refusal, first_of_two, fields_refusal, body_refusal, is_streamed, plain_refusal, request_refusal, is_offered, unless, action_of, routed_action}
+use Rattle.glacier_requests.specs.Routes.{route_of}
 use Rattle.glacier_machine.specs.SignedRequests.{fault_refusal, signer_of, RefusesInAscii, routed_asked, verified_request, needed_request, request_with}
 use Rattle.glacier_machine.specs.declared.config.Config.{Config}
 use Rattle.glacier_machine.specs.declared.content_hash.TheConstants.{MOST_BODY}
-use Rattle.glacier_machine.specs.declared.routes.Route.{Route}
-use Rattle.glacier_machine.specs.declared.routes.RouteStep.{RouteStep}
-use Rattle.glacier_machine.specs.declared.routes.RouteStep.TheVariants as found
+use Rattle.glacier_requests.specs.declared.routes.Route.{Route}
+use Rattle.glacier_requests.specs.declared.routes.RouteStep.{RouteStep}
+use Rattle.glacier_requests.specs.declared.routes.RouteStep.TheVariants as found
+use Rattle.glacier_requests.specs.declared.routes.Op.{Op}
+use Rattle.glacier_machine.specs.declared.action.Action.{Action}
+use Rattle.glacier_machine.proofs.AskedAscii.{action_ascii}
 use Rattle.glacier_machine.proofs.HeaderLemmas.{first_is_ascii}
 use Rattle.glacier_replies.proofs.NameLemmas.{ascii_by}
 use Rattle.glacier_sigv4.specs.Authorization.{AuthorizationText, authorization_of, names_in}
@@ -27,7 +30,7 @@ use Rattle.glacier_sigv4.specs.declared.auth_fault.AuthFault.{AuthFault}
 use Rattle.glacier_sigv4.specs.declared.auth_fault.AuthFault.TheVariants as fault
 use Rattle.glacier_sigv4.specs.declared.ring.Entry.{Entry}
 use Rattle.glacier_vault.specs.declared.refusal.Refusal.{Refusal}
-use Rattle.glacier_vault.specs.declared.refusal.Refusal.TheVariants.{OtherAccount, BadVersion, HashNeeded, BodyTooLong, ContentMismatch}
+use Rattle.glacier_vault.specs.declared.refusal.Refusal.TheVariants.{NoRoute, OtherAccount, BadVersion, HashNeeded, BodyTooLong, ContentMismatch}
 use Rattle.glacier_base.specs.Dates.{basic_moment}
 
 -- the name of a fault is ASCII
@@ -156,23 +159,34 @@ body_ascii head n body =
     two_ascii (length_refusal n) (content_refusal (named_hashes head) body) (length_ascii n)
     (content_ascii (named_hashes head) body)
 
+plain_body_ascii : (o : Op) (head : HeadText) (n : ℕ) (body : List ℕ) → IfSome (plain_refusal o head n body) HasAsciiText
+plain_body_ascii o head n body = go (is_streamed o head)
+  where
+    go : (t : Bool) → IfSome (cond t None (body_refusal head n body)) HasAsciiText
+    go true = tt
+    go false = body_ascii head n body
+
 request_ascii : (route : Route) (signer : List ℕ) (head : HeadText) (n : ℕ) (body : List ℕ)
     → IfSome (request_refusal route signer head n body) HasAsciiText
 request_ascii route signer head n body =
-    two_ascii (fields_refusal route signer head) (body_refusal head n body) (fields_ascii route signer head)
-    (body_ascii head n body)
+    two_ascii (fields_refusal route signer head) (plain_refusal route.op head n body) (fields_ascii route signer head)
+    (plain_body_ascii route.op head n body)
 
 routed_ascii : (step : RouteStep) (signer : List ℕ) (head : HeadText) (n : ℕ) (body : List ℕ)
     → IfErr (routed_asked step signer head n body) HasAsciiText
-routed_ascii (found.Route route) signer head n body =
-    go (request_refusal route signer head n body) (request_ascii route signer head n body)
+routed_ascii (found.Route route) signer head n body = by_offer (is_offered route.op)
   where
-    go : (refusal : Option Refusal) → IfSome refusal HasAsciiText
-        → IfErr (unless refusal (action_of route.op)) HasAsciiText
-    go None ascii = tt
-    go (Some refusal) ascii = ascii
+    by_refusal : (refusal : Option Refusal) → IfSome refusal HasAsciiText
+        → IfErr (unless refusal (action_of route.op head n body)) HasAsciiText
+    by_refusal None ascii = action_ascii route.op head n body
+    by_refusal (Some refusal) ascii = ascii
+
+    by_offer : (t : Bool) → IfErr {T = Action} (cond t (routed_action route signer head n body) (Err NoRoute)) HasAsciiText
+    by_offer true = by_refusal (request_refusal route signer head n body) (request_ascii route signer head n body)
+    by_offer false = tt
 routed_ascii found.NoRoute signer head n body = tt
 routed_ascii found.BadName signer head n body = tt
+routed_ascii found.BadId signer head n body = tt
 
 -- a message is refused with ASCII texts
 pub refused_ascii : (config : Config) (head : HeadText) (n : ℕ) (body : List ℕ) (reading : ℕ) → HasNames head.fields

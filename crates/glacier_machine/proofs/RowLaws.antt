@@ -5,7 +5,7 @@ use Rattle.glacier_http.specs.declared.reply.Reply.{Reply}
 use Rattle.glacier_vault.specs.Rows.{Row}
 use Rattle.glacier_vault.specs.declared.event.Change.{Change}
 use Rattle.glacier_vault.specs.declared.state.AccountState.{AccountState}
-use Rattle.glacier_machine.specs.AccountSteps.{by_row}
+use Rattle.glacier_machine.specs.Steps.{by_row}
 
 if_some_of : {X P : Type 0} (r : Option X) → P → IfSome r (λ _. P)
 if_some_of None p = tt

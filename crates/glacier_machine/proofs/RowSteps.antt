@@ -1,13 +1,13 @@
 -- The steps of rows, by how they came out.
-use Rattle.std.specs.Prelude.{◌≡◌, ℕ, None, Result, Ok, Err, IfOk, OnOk, OnErr}
-use Rattle.std.proofs.Common.{refl, sym, ap, ◌∙◌}
+use Rattle.std.specs.Prelude.{◌≡◌, None, Result, Ok, Err, OnOk, OnErr}
+use Rattle.std.proofs.Common.{refl, ap, ◌∙◌}
 use Rattle.glacier_http.specs.declared.reply.Reply.{Reply}
 use Rattle.glacier_vault.specs.declared.event.Change.{Change}
 use Rattle.glacier_vault.specs.declared.refusal.Refusal.{Refusal}
 use Rattle.glacier_vault.specs.declared.state.AccountState.{AccountState}
 use Rattle.glacier_vault.specs.Rows.{Row, answer, no_change, state_after}
 use Rattle.glacier_machine.specs.declared.action.Answer.{Answer}
-use Rattle.glacier_machine.specs.AccountSteps.{Step, only_replies, by_row, by_look}
+use Rattle.glacier_machine.specs.Steps.{only_replies, by_row, by_look}
 use Rattle.glacier_replies.specs.Replies.{refused}
 
 same_refusal : (one other : Refusal) → (let r : Result Change Refusal = Err one in let s : Result Change Refusal = Err other in r ≡ s) → one ≡ other

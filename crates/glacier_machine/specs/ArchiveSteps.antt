@@ -9,7 +9,7 @@ use Rattle.glacier_upload.specs.declared.asks.Found.{Found}
 use Rattle.glacier_upload.specs.declared.asks.UploadAsk.{UploadAsk}
 use Rattle.glacier_vault.specs.declared.rules.Rules.{Rules}
 use Rattle.glacier_vault.specs.declared.state.AccountState.{AccountState}
-use Rattle.glacier_machine.specs.AccountSteps.{Step, by_row, only_replies}
+use Rattle.glacier_machine.specs.Steps.{Step, by_row, only_replies, storing}
 
 -- POST of an archive that was admitted, once its body was taken: the archive gets the account's next number
 abbrev pub upload_step : Rules → ℕ → UploadAsk → Found → AccountState → Step
@@ -20,11 +20,11 @@ upload_step rules m ask found before =
 abbrev pub found_in : List ℕ → Found
 found_in body = record { linear = sha256 body; leaves = leaves_of body }
 
--- POST of an archive with its body, which isn't looked at where the upload isn't admitted
+-- POST of an archive with its body, which its event stores. It isn't looked at where the upload isn't admitted
 abbrev pub archive_step : Rules → ℕ → UploadAsk → List ℕ → AccountState → Step
 archive_step rules m ask body before = elim (upload_refusal rules.quota before ask) [
   | Some refusal ↦ only_replies before (refused refusal)
-  | None ↦ upload_step rules m ask (found_in body) before
+  | None ↦ storing body (upload_step rules m ask (found_in body) before)
 ]
 
 -- DELETE of an archive

@@ -10,7 +10,7 @@ use Rattle.glacier_requests.specs.declared.jobs.JobBody.{JobBody}
 use Rattle.glacier_requests.specs.declared.jobs.JobKind.{JobKind}
 use Rattle.glacier_requests.specs.declared.jobs.JobKind.TheVariants.{Archive, Inventory}
 use Rattle.glacier_requests.specs.declared.routes.Op.{Op}
-use Rattle.glacier_requests.specs.declared.routes.Op.TheVariants.{Upload, Part}
+use Rattle.glacier_requests.specs.declared.routes.Op.TheVariants as op
 use Rattle.glacier_requests.specs.declared.routes.RouteStep.{RouteStep}
 use Rattle.glacier_requests.specs.declared.routes.RouteStep.TheVariants as found
 use Rattle.glacier_requests.specs.declared.uploads.UploadHead.{UploadHead}
@@ -41,8 +41,7 @@ job_asked vault body = record {
 
 -- whether the body of an operation is kept in the store
 abbrev pub takes_body : Op → Bool
-takes_body (Upload vault) = true
-takes_body (Part vault upload) = true
+takes_body (op.Upload vault) = true
 takes_body _ = false
 
 abbrev pub routes_body : RouteStep → Bool
@@ -53,6 +52,6 @@ abbrev pub some_value : List (List ℕ) → Bool
 some_value [] = false
 some_value (value ∷ more) = true
 
--- whether a message is decided up to its body when its head is whole: the body of such an operation, with a hash named
+-- whether a message is decided up to its body when its head is whole: an archive's upload, with a hash named
 abbrev pub is_bulk_head : HeadText → Bool
 is_bulk_head head = routes_body (route_of head) && some_value (values_of (codes "x-amz-content-sha256") head.fields)

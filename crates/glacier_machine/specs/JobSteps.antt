@@ -1,5 +1,5 @@
 -- The steps of the operations on jobs: the beginning of one, its description, and its output.
-use Rattle.std.specs.Prelude.{ℕ, ◌+◌, ◌-◌, ◌≤◌, Bool, List, length, IfSome, Option, Some, None, Result, Ok, Err, if◌then◌else◌, slice_range}
+use Rattle.std.specs.Prelude.{ℕ, ◌+◌, ◌-◌, ◌≤◌, Bool, List, [], length, IfSome, Option, Some, None, Result, Ok, Err, if◌then◌else◌, slice_range}
 use Rattle.std.specs.FinMap as map
 use Rattle.glacier_http.specs.declared.reply.Kind.{Kind}
 use Rattle.glacier_http.specs.declared.reply.Kind.TheVariants.{Csv, Json}
@@ -19,7 +19,7 @@ use Rattle.glacier_vault.specs.declared.rules.Rules.{Rules}
 use Rattle.glacier_vault.specs.declared.state.AccountState.{AccountState}
 use Rattle.glacier_vault.specs.declared.state.VaultState.{VaultState}
 use Rattle.glacier_replies.specs.Replies.{refused}
-use Rattle.glacier_machine.specs.AccountSteps.{Step, by_row, by_look}
+use Rattle.glacier_machine.specs.Steps.{Step, by_row, by_look}
 use Rattle.glacier_machine.specs.declared.action.Answer.{Answer}
 
 -- POST of a job, which gets the account's next number
@@ -108,4 +108,4 @@ found_answer account name asked inventory (Err refusal) =
 -- GET of a job's output, of all of it or of a range of a first and a last byte. The output of an inventory is this text
 abbrev pub job_output_step : List ℕ → ℕ → Option (ℕ × ℕ) → List ℕ → AccountState → Step
 job_output_step name number asked inventory before =
-    record { answer = found_answer before name asked inventory (found_job before name number); state = before }
+    record { answer = found_answer before name asked inventory (found_job before name number); state = before; stored = [] }

@@ -1,16 +1,16 @@
 -- What a message with a good head asks for, by the head's text, its body and a reading of the clock.
-use Rattle.std.specs.Prelude.{◌≡◌, ℕ, ◌≤◌, List, length, Option, Some, None, Result, Ok, Err, IfErr}
+use Rattle.std.specs.Prelude.{◌≡◌, ℕ, ◌≤◌, List, length, Option, Some, None, Result, Ok, Err, IfErr, if◌then◌else◌}
 use Rattle.glacier_http.specs.View.{HeadText}
 use Rattle.glacier_machine.specs.ContentHash.{named_hashes, need_refusal}
-use Rattle.glacier_machine.specs.Requests.{routed_action}
-use Rattle.glacier_machine.specs.Routes.{route_of}
+use Rattle.glacier_machine.specs.Requests.{is_offered, routed_action}
 use Rattle.glacier_machine.specs.declared.action.Action.{Action}
 use Rattle.glacier_machine.specs.declared.action.Request.{Request}
 use Rattle.glacier_machine.specs.declared.config.Config.{Config}
 use Rattle.glacier_machine.specs.declared.content_hash.TheConstants.{MOST_BODY}
-use Rattle.glacier_machine.specs.declared.routes.RouteStep.{RouteStep}
-use Rattle.glacier_machine.specs.declared.routes.RouteStep.TheVariants as found
 use Rattle.glacier_replies.specs.Messages.{HasAsciiText}
+use Rattle.glacier_requests.specs.Routes.{route_of}
+use Rattle.glacier_requests.specs.declared.routes.RouteStep.{RouteStep}
+use Rattle.glacier_requests.specs.declared.routes.RouteStep.TheVariants as found
 use Rattle.glacier_sigv4.specs.Payload.{payload_of}
 use Rattle.glacier_sigv4.specs.Verdict.{Verdict, verdict}
 use Rattle.glacier_sigv4.specs.declared.auth_fault.AuthFault.{AuthFault}
@@ -32,11 +32,13 @@ fault_refusal fault.BadSignature = refusal.BadSignature
 abbrev pub signer_of : Config → HeadText → List ℕ → ℕ → Verdict
 signer_of config head body reading = verdict config.ring config.region head (payload_of head.fields body) reading
 
--- what a signer's head asks for, by its route
+-- what a signer's head asks for, by its route: what isn't offered has none
 abbrev pub routed_asked : RouteStep → List ℕ → HeadText → ℕ → List ℕ → Result Action Refusal
-routed_asked (found.Route route) signer head length body = routed_action route signer head length body
+routed_asked (found.Route route) signer head length body =
+    if is_offered route.op then routed_action route signer head length body else Err refusal.NoRoute
 routed_asked found.NoRoute signer head length body = Err refusal.NoRoute
 routed_asked found.BadName signer head length body = Err refusal.BadName
+routed_asked found.BadId signer head length body = Err refusal.BadId
 
 -- what a verified head of this signer and its body ask for, or why that is refused
 abbrev pub asked_by : List ℕ → HeadText → ℕ → List ℕ → Result Action Refusal

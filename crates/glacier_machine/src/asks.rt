@@ -2,6 +2,7 @@
 ghost use Rattle.std.specs.Prelude.{◌≡◌, codes};
 ghost use Rattle.glacier_http.specs.Fields.{values_of};
 ghost use Rattle.glacier_machine.specs.Asks.{upload_asked, kind_asked, job_asked, takes_body as takes_body_by, some_value, is_bulk_head};
+ghost use Rattle.glacier_machine.specs.Requests.{is_streamed as is_streamed_by};
 
 use glacier_base::VaultName;
 use glacier_http::{Find, Head};
@@ -50,7 +51,7 @@ fn takes_body(op: &Op) -> bool
     ensures { result ≡ takes_body_by op.now }
 {
     match op {
-        Op::Upload { .. } | Op::Part { .. } => true,
+        Op::Upload { .. } => true,
         _ => false,
     }
 }
@@ -64,13 +65,20 @@ fn names_hash(head: &Head<'_>) -> bool
     }
 }
 
-/// Whether a message is decided up to its body when its head is whole: an upload of an archive or
-/// of a part whose head names the body's hash. It takes no memory.
+/// Whether the body of an operation streams into the store.
+pub(crate) fn is_streamed(op: &Op, head: &Head<'_>) -> bool
+    ensures { result ≡ is_streamed_by op.now head.now }
+{
+    takes_body(op) && names_hash(head)
+}
+
+/// Whether a message is decided up to its body when its head is whole: an upload of an archive whose
+/// head names the body's hash. It takes no memory.
 pub fn is_bulk(head: &Head<'_>) -> bool
     ensures { result ≡ is_bulk_head head.now }
 {
     match route(head) {
-        RouteStep::Route(route) => takes_body(&route.op) && names_hash(head),
+        RouteStep::Route(route) => is_streamed(&route.op, head),
         _ => false,
     }
 }

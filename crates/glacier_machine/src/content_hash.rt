@@ -4,7 +4,7 @@ ghost use Rattle.sha2.specs.Sha256.{sha256};
 ghost use Rattle.glacier_machine.specs.ContentHash.{hash_name, named_hashes, need_refusal as refusal_of_need, hash_refusal as refusal_of_hash, length_refusal as refusal_of_length, mismatch as refusal_of_mismatch, content_refusal as refusal_of_content};
 ghost use Rattle.glacier_vault.specs.declared.refusal.Refusal.TheVariants.{BadHeader};
 
-use crate::path::is_same;
+use crate::same::is_same;
 use glacier_base::{Digest, Memory, Text};
 use glacier_http::{Find, Head};
 use glacier_vault::Refusal;

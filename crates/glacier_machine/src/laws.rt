@@ -1,8 +1,8 @@
 // Laws of the definitions, which no code calls.
-ghost use Rattle.std.specs.Prelude.{◌≡◌, ◌↔◌, ◌≤◌, ℕ, List, [], Option, All, IsTrue, IfSome, Ok, Err};
-ghost use Rattle.glacier_base.specs.Names.{is_vault_name};
-ghost use Rattle.glacier_http.specs.View.{HeadText};
-ghost use Rattle.glacier_http.specs.Messages.{Message};
+ghost use Rattle.std.specs.Prelude.{◌≡◌, ◌≤◌, ℕ, List, [], length, Option, All, IfSome, Ok, Err, true};
+ghost use Rattle.httparse.specs.Grammar.{RequestHead};
+ghost use Rattle.glacier_http.specs.View.{HeadText, text_of};
+ghost use Rattle.glacier_http.specs.Messages.{Message, good};
 ghost use Rattle.glacier_job.specs.Beginning.{begin_row};
 ghost use Rattle.glacier_job.specs.declared.asks.JobAsk.{JobAsk};
 ghost use Rattle.glacier_lock.specs.Denied.{delete_archive_row};
@@ -12,23 +12,21 @@ ghost use Rattle.glacier_upload.specs.declared.asks.Found.{Found};
 ghost use Rattle.glacier_upload.specs.declared.asks.UploadAsk.{UploadAsk};
 ghost use Rattle.glacier_vault.specs.Lawful.{IsLawful};
 ghost use Rattle.glacier_vault.specs.Rows.{answer};
-ghost use Rattle.glacier_machine.specs.AccountSteps.{only_replies};
+ghost use Rattle.glacier_machine.specs.Steps.{only_replies};
 ghost use Rattle.glacier_job.specs.Work.{HasOrderedRange};
 ghost use Rattle.glacier_requests.specs.JobBodies.{job_body_of};
 ghost use Rattle.glacier_requests.specs.declared.jobs.JobBody.{JobBody};
-ghost use Rattle.glacier_machine.specs.Asks.{job_asked};
+ghost use Rattle.glacier_machine.specs.Asks.{job_asked, is_bulk_head};
+ghost use Rattle.glacier_machine.specs.Moments.{moment_change};
+ghost use Rattle.glacier_machine.specs.SignedRequests.{request_in};
 ghost use Rattle.glacier_machine.specs.ArchiveSteps.{upload_step, delete_archive_step};
 ghost use Rattle.glacier_machine.specs.JobSteps.{begin_job_step, job_output_step};
 ghost use Rattle.glacier_machine.specs.Outputs.{IsOutputOf};
-ghost use Rattle.glacier_machine.specs.Outcomes.{outcome_events, action_outcome, one};
-ghost use Rattle.glacier_machine.specs.Paths.{AsksFor};
+ghost use Rattle.glacier_machine.specs.Outcomes.{outcome_events, action_outcome, events_of, moment_of, one};
 ghost use Rattle.glacier_vault.specs.Accounts.{Accounts};
-ghost use Rattle.glacier_machine.specs.Routes.{route_of};
 ghost use Rattle.glacier_machine.specs.Verified.{IsSignedBy};
 ghost use Rattle.glacier_machine.specs.declared.action.Request.{Request as RequestMade};
 ghost use Rattle.glacier_machine.specs.declared.config.Config.{Config as ServiceConfig};
-ghost use Rattle.glacier_machine.specs.declared.routes.Route.{Route as HeadRoute};
-ghost use Rattle.glacier_machine.specs.declared.routes.RouteStep.TheVariants as found;
 ghost use Rattle.glacier_vault.specs.declared.refusal.Refusal.{Refusal};
 ghost use Rattle.glacier_vault.specs.declared.rules.Rules.{Rules as AccountRules};
 ghost use Rattle.glacier_vault.specs.declared.state.AccountState.{AccountState as Account};
@@ -40,26 +38,30 @@ pub fn events_are_signed()
         (outcome_events (one config accounts message reading)) }
 {}
 
-/// A request that is refused lets time pass, and has no other event.
+/// A request lets time pass for its account, and one that is refused has no other event.
 pub fn refused_requests_only_pass()
-    ensures done { (rules : AccountRules) (before : Account) (request : RequestMade) (reading : ℕ)
-        (refusal : Refusal) → request.asked ≡ Err refusal
-        → (action_outcome rules before request reading).done ≡ [] }
-    ensures reply { (rules : AccountRules) (before : Account) (request : RequestMade) (reading : ℕ)
-        (refusal : Refusal) → request.asked ≡ Err refusal
-        → (action_outcome rules before request reading).reply ≡ refused refusal }
+    ensures passed { (rules : AccountRules) (before : Account) (request : RequestMade) (body : List ℕ)
+        (reading : ℕ) → (action_outcome rules before request body reading).passed
+        ≡ events_of request.account (moment_of before reading)
+        (moment_change (moment_of before reading) before).event [] }
+    ensures done { (rules : AccountRules) (before : Account) (request : RequestMade) (body : List ℕ)
+        (reading : ℕ) (refusal : Refusal) → request.asked ≡ Err refusal
+        → (action_outcome rules before request body reading).done ≡ [] }
+    ensures reply { (rules : AccountRules) (before : Account) (request : RequestMade) (body : List ℕ)
+        (reading : ℕ) (refusal : Refusal) → request.asked ≡ Err refusal
+        → (action_outcome rules before request body reading).reply ≡ refused refusal }
 {}
 
-/// A head has exactly the route that its method and path ask for. It is BadName exactly where they
-/// ask for one on a vault whose name breaks the rule of names, and NoRoute where they ask for none.
-pub fn route_is_what_is_asked_for()
-    ensures route { (head : HeadText) (route : HeadRoute) → (route_of head ≡ found.Route route)
-        ↔ ((name : List ℕ) × AsksFor head route name × IsTrue (is_vault_name name)) }
-    ensures bad_name { (head : HeadText) → (route_of head ≡ found.BadName)
-        ↔ ((route : HeadRoute) × (name : List ℕ) × AsksFor head route name
-        × (¬ IsTrue (is_vault_name name))) }
-    ensures no_route { (head : HeadText) → (route_of head ≡ found.NoRoute)
-        ↔ ((route : HeadRoute) (name : List ℕ) → ¬ (AsksFor head route name)) }
+/// What a message asks for whose head says that it is an upload is decided before its body: by the
+/// head and the body's length. What time does for it is decided by the head alone.
+pub fn bulk_messages_are_decided_at_their_heads()
+    ensures request { (config : ServiceConfig) (head : HeadText) (a b : List ℕ) (reading : ℕ)
+        → is_bulk_head head ≡ true → length a ≡ length b
+        → request_in config head a reading ≡ request_in config head b reading }
+    ensures passed { (config : ServiceConfig) (accounts : Accounts) (head : RequestHead) (body : List ℕ)
+        (reading : ℕ) → is_bulk_head (text_of head) ≡ true
+        → (one config accounts (good head body) reading).passed
+        ≡ (one config accounts (good head []) reading).passed }
 {}
 
 /// A step that refuses changes nothing.

@@ -4,6 +4,7 @@ pub mod MemberLemmas
 pub mod PathLemmas
 pub mod PlaceLemmas
 pub mod RangeFound
+pub mod RefusalLemmas
 pub mod RisingRanges
 pub mod RouteLemmas
 pub mod RowLemmas

@@ -23,7 +23,7 @@ abbrev IsRising : ℕ × ℕ → Type 0
 IsRising range = range.0 ≤ range.1
 
 -- what was read before something that was read
-went_on : {A B P : Type 0} (r : Result A Refusal) (next : A → Result B Refusal) (b : B) → and_then r next ≡ Ok b
+pub went_on : {A B P : Type 0} (r : Result A Refusal) (next : A → Result B Refusal) (b : B) → and_then r next ≡ Ok b
     → ((a : A) → r ≡ Ok a → next a ≡ Ok b → P) → P
 went_on (Ok a) next b is then = then a refl is
 went_on (Err refusal) next b is then = cc

@@ -1,5 +1,0 @@
-use Rattle.glacier_machine.proofs.RouteLemmas.{route_is_asked, bad_name_is_asked, no_route_is_asked}
-use Rattle.glacier_machine.proofs.laws.route_is_what_is_asked_for.Goals as goal
-
-pub returns : goal.returns
-returns c = record { route = route_is_asked; bad_name = bad_name_is_asked; no_route = no_route_is_asked }
