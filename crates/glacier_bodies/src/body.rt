@@ -119,6 +119,7 @@ impl Body {
         requires full { block_count (body_runs self) ≡ div_ceil (body_taken self) BLOCK }
         ensures linear { (message : List ℕ) → HasTaken self message → result.0.linear ≡ sha256 message }
         ensures leaves { (message : List ℕ) → HasTaken self message → result.0.leaves ≡ leaves_of message }
+        ensures count { length result.0.leaves ≡ block_count (body_runs self) }
         ensures runs { result.1 ≡ body_runs self }
     {
         let Body {

@@ -4,7 +4,7 @@ use Rattle.std.specs.Cmp.Lexicographic.{nat_list_cmp_total, slice_cmp}
 use Rattle.std.specs.FinMap as map
 use Rattle.std.specs.Option.{is_some}
 use Rattle.std.specs.Ordering.{eq_by_cmp, nat_cmp}
-use Rattle.std.proofs.Common.{◌∙◌, ap, sym, refl, subst}
+use Rattle.std.proofs.Common.{◌∙◌, ap, sym, refl}
 use Rattle.glacier_base.proofs.Finite.{bytes_cmp-IsAntisymmetric}
 use Rattle.glacier_base.proofs.Sorted.{tied}
 use Rattle.glacier_vault.specs.Account.{empty_account}

@@ -1,5 +1,5 @@
 -- A store goes on by the event of a change, or stays where there is none.
-use Rattle.std.proofs.Common.{◌≡◌, ℕ, List, [], ◌∷◌, Option, Some, None, Ok, Err, refl, sym, subst, arith, inl, inr}
+use Rattle.std.proofs.Common.{◌≡◌, ℕ, ◌+◌, ◌<◌, List, [], ◌∷◌, Option, Some, None, Ok, Err, refl, sym, subst, arith, inl, inr}
 use Rattle.std.specs.FinMap as map
 use Rattle.std.specs.Prelude.{Result}
 use Rattle.std.proofs.lemmas.Result.{IfOk-weaker, on_ok_weaker}
@@ -26,6 +26,7 @@ pub unchanged_keeps : (old : Told) (store : Store) (before : State) → Lawful o
 unchanged_keeps old store before law accounts = record {
   any_moment = λ held. weaker old old _ _ (stays_start old store.journal store.area.blobs before law held) (λ i stands. inl stands);
   memory = λ held is. absurd (cc is);
+  held = λ held. record { accounts = accounts; held = held };
   kept = λ held beside. record { accounts = accounts; held = held; rest = rest_alone store.area.free store.area.blobs beside };
   touches = touches_start store.journal.area old law;
 }
@@ -35,8 +36,9 @@ pub advanced : (old new : Told) (store : Store) (happened : List AccountEvent) (
     → ((state : State) → store.accounts ≡ state.accounts → Commits old new store.journal store.area [] state (after_all state happened) result)
     → (happened ≡ [] → Looks old new) → Advances old new store happened result
 advanced old new store happened result keeps idle = record {
-  any_moment = λ state kept. (keeps state kept.accounts).any_moment kept.held;
-  memory = λ state kept is. (keeps state kept.accounts).memory kept.held is;
+  any_moment = λ state is. (keeps state is.accounts).any_moment is.held;
+  memory = λ state is wanting. (keeps state is.accounts).memory is.held wanting;
+  held = λ state is. (keeps state is.accounts).held is.held;
   kept = λ state kept. (keeps state kept.accounts).kept kept.held (beside_none store.area.free store.area.blobs kept.rest);
   touches = (keeps (record { accounts = store.accounts; bodies = map.empty }) refl).touches;
   idle = idle;
@@ -45,14 +47,14 @@ advanced old new store happened result keeps idle = record {
 -- a change of the accounts that is kept
 pub change_advances : (old new : Told) (store : Store) (afterwards : Accounts) (k : List ℕ) (m : ℕ) (change : Change) (result : Result Store StoreFault)
     → IsChangeOf store.accounts afterwards k m change
-    → ((before : State) → IsChangeOf before.accounts afterwards k m change → Commits old new store.journal store.area [] before (after_all before (change_events k m change)) result)
-    → (change.event ≡ None → Looks old new) → Advances old new store (change_events k m change) result
+    → ((before : State) → IsChangeOf before.accounts afterwards k m change → Commits old new store.journal store.area [] before (after_all before (change_events k m change [])) result)
+    → (change.event ≡ None → Looks old new) → Advances old new store (change_events k m change []) result
 change_advances old new store afterwards k m change result is keeps idle =
-    advanced old new store (change_events k m change) result
+    advanced old new store (change_events k m change []) result
     (λ state same. keeps state (subst (λ (all : Accounts). IsChangeOf all afterwards k m change) same is))
     (λ none. idle (no_event change.event change.freed none))
   where
-    no_event : (event : Option Event) (freed : List ℕ) → change_events k m (record { event = event; freed = freed }) ≡ [] → event ≡ None
+    no_event : (event : Option Event) (freed : List ℕ) → change_events k m (record { event = event; freed = freed }) [] ≡ [] → event ≡ None
     no_event None freed none = refl
     no_event (Some event) freed none = cc none
 
@@ -87,18 +89,21 @@ grows_none journal room result is = subst (λ (r : Result Store StoreFault). Gro
 })
 
 -- and it grows by a record
-pub grows_once : (journal : Journal) (h : AccountEvent) (result : Result Store StoreFault) → Lengthens journal (record_room h []) result → Grows journal (room_of (h ∷ [])) result
-grows_once journal h result lengthens = record {
+pub grows_by : (journal : Journal) (room : ℕ) (result : Result Store StoreFault) → 0 < room → Lengthens journal room result → Grows journal (room + 0) result
+grows_by journal room result some lengthens = record {
   longer = IfOk-weaker result _ _ (λ done is. omega (arith, is)) lengthens.longer;
-  within = on_ok_weaker result (λ is some. omega (arith, is)) lengthens.within;
+  within = on_ok_weaker result (λ is low. omega (arith, is)) lengthens.within;
   end = λ length is. (let e = lengthens.end length is in (e.0, omega (arith, e.1)));
-  some = λ length is. omega arith;
+  some = λ length is. omega (arith, some);
   no_other = lengthens.no_other;
 }
 
+pub grows_once : (journal : Journal) (h : AccountEvent) (result : Result Store StoreFault) → Lengthens journal (record_room h []) result → Grows journal (room_of (h ∷ [])) result
+grows_once journal h result lengthens = grows_by journal (record_room h []) result (omega arith) lengthens
+
 module _ (k : List ℕ) (m : ℕ) (freed : List ℕ) where
   abbrev its : Option Event → List AccountEvent
-  its event = change_events k m (record { event = event; freed = freed })
+  its event = change_events k m (record { event = event; freed = freed }) []
 
   -- a change without an event is kept
   pub none_keeps : (old : Told) (store : Store) (before : State) (event : Option Event) → event ≡ None → Lawful old

@@ -13,12 +13,12 @@ use Rattle.glacier_replay.specs.Changes.{accounts_after as after_one, body_in}
 use Rattle.glacier_replay.specs.Replayed.{Replay, replayed}
 use Rattle.glacier_store.specs.Drawn.{AreDrawn}
 use Rattle.glacier_store.specs.Calls.{event_at}
-use Rattle.glacier_store.specs.Steps.{IsChangeOf, IsMadeBy, accounts_after, change_events}
+use Rattle.glacier_store.specs.Steps.{IsChangeOf, IsChangeWith, IsMadeWith, accounts_after, change_events}
 use Rattle.glacier_store.proofs.AccountLemmas.{put_back}
 use Rattle.glacier_store.proofs.EventOfLemmas.{drawn_on}
 use Rattle.glacier_replay.proofs.PutLemmas.{put_over}
 
-module _ (accounts : Accounts) (k : List ℕ) (m : ℕ) where
+module _ (told : Option (ℕ × List (List ℕ))) (accounts : Accounts) (k : List ℕ) (m : ℕ) where
   abbrev put_if : AccountState → Bool → Accounts
   put_if state b = cond b (map.insert (map.remove accounts k) k state) (map.remove accounts k)
 
@@ -32,8 +32,8 @@ module _ (accounts : Accounts) (k : List ℕ) (m : ℕ) where
 
   -- what was taken out goes back, as the event leaves it
   put : (event : Option Event) (freed : List ℕ) (after : AccountState) → IsLawful (account_in accounts k)
-      → IsMadeBy (account_in accounts k) m (record { event = event; freed = freed }) after
-      → IsChangeOf accounts (put_if after (map.contains_key accounts k || is_some event)) k m (record { event = event; freed = freed })
+      → IsMadeWith told (account_in accounts k) m (record { event = event; freed = freed }) after
+      → IsChangeWith told accounts (put_if after (map.contains_key accounts k || is_some event)) k m (record { event = event; freed = freed })
   put None freed after lawful made =
       ap (put_if after) (or_false (map.contains_key accounts k))
       ∙ ap (λ (s : AccountState). put_if s (map.contains_key accounts k)) made
@@ -49,27 +49,27 @@ module _ (accounts : Accounts) (k : List ℕ) (m : ℕ) where
   )
 
   pub changed_accounts : (before after : AccountState) (change : Change) (keep : Bool) (taken new : Accounts) → taken ≡ map.remove accounts k
-      → before ≡ account_in accounts k → IsLawful before → IsMadeBy before m change after → keep ≡ (map.contains_key accounts k || is_some change.event)
-      → new ≡ cond keep (map.insert taken k after) taken → IsChangeOf accounts new k m change
+      → before ≡ account_in accounts k → IsLawful before → IsMadeWith told before m change after → keep ≡ (map.contains_key accounts k || is_some change.event)
+      → new ≡ cond keep (map.insert taken k after) taken → IsChangeWith told accounts new k m change
   changed_accounts before after change keep taken new took was lawful made keeps put_is =
       let new_is : new ≡ put_if after (map.contains_key accounts k || is_some change.event) =
       put_is
       ∙ ap (λ (b : Bool). cond b (map.insert taken k after) taken) keeps
       ∙ ap (λ (t : Accounts). cond (map.contains_key accounts k || is_some change.event) (map.insert t k after) t) took in
-      subst (λ (all : Accounts). IsChangeOf accounts all k m change) (sym new_is)
-      (put change.event change.freed after (subst IsLawful was lawful) (subst (λ (b : AccountState). IsMadeBy b m change after) was made))
+      subst (λ (all : Accounts). IsChangeWith told accounts all k m change) (sym new_is)
+      (put change.event change.freed after (subst IsLawful was lawful) (subst (λ (b : AccountState). IsMadeWith told b m change after) was made))
 
 -- the accounts after a change are those after its events
-pub after_change : (before after : Accounts) (k : List ℕ) (m : ℕ) (event : Option Event) (freed : List ℕ) → IsChangeOf before after k m (record { event = event; freed = freed })
-    → after ≡ accounts_after before (change_events k m (record { event = event; freed = freed }))
-after_change before after k m None freed is = is
-after_change before after k m (Some event) freed is = is.1.after_is ∙ sym (ap (λ (r : Replay). after_one before k r) is.1.change)
+pub after_change : (told : Option (ℕ × List (List ℕ))) (before after : Accounts) (k : List ℕ) (m : ℕ) (event : Option Event) (freed body : List ℕ)
+    → IsChangeWith told before after k m (record { event = event; freed = freed }) → after ≡ accounts_after before (change_events k m (record { event = event; freed = freed }) body)
+after_change told before after k m None freed body is = is
+after_change told before after k m (Some event) freed body is = is.1.after_is ∙ sym (ap (λ (r : Replay). after_one before k r) is.1.change)
 
 -- the blobs' numbers stay drawn
-pub drawn_after : (before after : Accounts) (k : List ℕ) (m : ℕ) (event : Option Event) (freed : List ℕ) (layouts : Layouts) → IsChangeOf before after k m (record { event = event; freed = freed })
-    → AreDrawn before layouts → AreDrawn after layouts
-drawn_after before after k m None freed layouts is drawn = subst (λ (all : Accounts). AreDrawn all layouts) (sym is) drawn
-drawn_after before after k m (Some event) freed layouts is drawn = drawn_on before after (event_at k m event []) freed layouts is.1 drawn
+pub drawn_after : (told : Option (ℕ × List (List ℕ))) (before after : Accounts) (k : List ℕ) (m : ℕ) (event : Option Event) (freed : List ℕ) (layouts : Layouts)
+    → IsChangeWith told before after k m (record { event = event; freed = freed }) → AreDrawn before layouts → AreDrawn after layouts
+drawn_after told before after k m None freed layouts is drawn = subst (λ (all : Accounts). AreDrawn all layouts) (sym is) drawn
+drawn_after told before after k m (Some event) freed layouts is drawn = drawn_on before after (event_at k m event []) freed layouts is.1 drawn
 
 -- the event of a change fits, and has no body
 pub change_fits : (before after : Accounts) (k : List ℕ) (m : ℕ) (event : Option Event) (freed : List ℕ) → IsChangeOf before after k m (record { event = event; freed = freed })

@@ -19,7 +19,7 @@ use Rattle.glacier_replay.specs.Changes.{IsBodyOf, State, after_account_event, l
 use Rattle.glacier_replay.specs.Made.{EventFits, IsRest, nothing, record_of}
 use Rattle.glacier_replay.proofs.SettledLemmas.{leads_settled, nothing_settled}
 use Rattle.glacier_store.specs.Kept.{IsHeldBy, IsRestBeside}
-use Rattle.glacier_store.specs.Calls.{IsEventOf, Commits}
+use Rattle.glacier_store.specs.Calls.{IsEventOf, Commits, HasFreed}
 use Rattle.glacier_store.specs.declared.fault.StoreFault.{StoreFault}
 use Rattle.glacier_store.specs.declared.fault.StoreFault.TheVariants as fault
 use Rattle.glacier_store.specs.declared.store.Store.{Store}
@@ -32,6 +32,7 @@ pub kept_without_memory : (old : Told) (journal : Journal) (area : AreaState) (o
 kept_without_memory old journal area own before after result is law = subst (λ (r : Result Store StoreFault). Commits old old journal area own before after r) (sym is) (record {
   any_moment = λ held. weaker old old _ _ (stays_start old journal area.blobs before law held) (λ i stands. inl stands);
   memory = λ held same. stays_start old journal area.blobs before law held;
+  held = λ held. tt;
   kept = λ held beside. tt;
   touches = touches_start journal.area old law;
 })
@@ -51,27 +52,38 @@ module _ (old new : Told) (journal : Journal) (area : AreaState) (own : List Run
       → done ≡ layouts_after before area.blobs h own
   its_layouts done is = is ∙ ap (λ (m : Layouts). without_blobs m h.account freed) named_is ∙ sym (layouts_are before afterwards h freed event area.blobs own)
 
+  -- what the appended record makes is held
+  done_held : (done : Store) → (held : IsHeldBy old journal area.blobs before) → HasFreed named done.area h.account freed
+      → IsDurable old new journal.area done.journal.area (held.payloads ++ payload ∷ []) done.journal.length
+      → IsHeldBy new done.journal done.area.blobs (after_account_event before h)
+  done_held done held freed_are durable =
+      subst (λ (l : Layouts). IsHeldBy new done.journal l (after_account_event before h)) (sym (its_layouts done.area.blobs freed_are.blobs))
+      (held_on old new journal area.blobs before h own payload law spells event.lawful fits body_is stored held done.journal durable)
+
   -- the record was appended, or not
   pub kept_by_append : (result : Result Store StoreFault)
       → ((payloads : Payloads) → AllList old.leaves journal.area payloads journal.length
       → IfOk result (λ done. IsDurable old new journal.area done.journal.area (payloads ++ payload ∷ []) done.journal.length))
-      → IfOk result (λ done. done.accounts ≡ afterwards) → IfOk result (λ done. done.area.blobs ≡ without_blobs named.blobs h.account freed)
-      → IfOk result (λ done. AreApart named.blobs → IsRest named.free named.blobs → IsRest done.area.free done.area.blobs) → (IsErrOf result fault.Memory → ⊥)
-      → Commits old new journal area own before (after_account_event before h) result
-  kept_by_append (Ok done) acknowledged accounts blobs rest no_memory = record {
+      → IfOk result (λ done. done.accounts ≡ afterwards) → IfOk result (λ done. HasFreed named done.area h.account freed)
+      → (IsErrOf result fault.Memory → ⊥) → Commits old new journal area own before (after_account_event before h) result
+  kept_by_append (Ok done) acknowledged accounts freed_are no_memory = record {
     any_moment = λ held. becomes old new journal area.blobs before h own payload law spells event.lawful fits body_is stored held appends;
     memory = λ held is. absurd (cc is);
+    held = λ held. record {
+      accounts = accounts ∙ accounts_are before afterwards h freed event;
+      held = done_held done held freed_are (acknowledged held.payloads held.listed);
+    };
     kept = λ held beside. record {
       accounts = accounts ∙ accounts_are before afterwards h freed event;
-      held = subst (λ (l : Layouts). IsHeldBy new done.journal l (after_account_event before h)) (sym (its_layouts done.area.blobs blobs))
-          (held_on old new journal area.blobs before h own payload law spells event.lawful fits body_is stored held done.journal (acknowledged held.payloads held.listed));
-      rest = rest (apart_is (apart held)) (rest_is beside);
+      held = done_held done held freed_are (acknowledged held.payloads held.listed);
+      rest = freed_are.rest (apart_is (apart held)) (rest_is beside);
     };
     touches = appends.touches;
   }
-  kept_by_append (Err why) acknowledged accounts blobs rest no_memory = record {
+  kept_by_append (Err why) acknowledged accounts freed_are no_memory = record {
     any_moment = λ held. becomes old new journal area.blobs before h own payload law spells event.lawful fits body_is stored held appends;
     memory = λ held is. absurd (no_memory is);
+    held = λ held. tt;
     kept = λ held beside. tt;
     touches = appends.touches;
   }

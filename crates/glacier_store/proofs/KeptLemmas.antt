@@ -18,7 +18,8 @@ use Rattle.glacier_replay.specs.Changes.{IsBodyOf, State, after_account_event}
 use Rattle.glacier_replay.specs.Made.{EventFits, after_event, record_of}
 use Rattle.glacier_replay.specs.Standing.{IsStateOf, Stands}
 use Rattle.glacier_replay.proofs.StateLemmas.{state_after}
-use Rattle.glacier_store.specs.Kept.{Changes, IsHeldBy, Stays}
+use Rattle.glacier_store.specs.Kept.{Changes, IsHeld, IsHeldBy, Kept, Stays}
+use Rattle.glacier_store.specs.declared.store.Store.{Store}
 
 -- a list stands in another area than the blobs
 pub picks_blobs : (bytes : List ℕ) (area : Area) → Picks bytes area → Blobs ≢ area
@@ -43,6 +44,10 @@ listed_stands i area payloads end layouts state listed is = record {
 -- what is held stands
 pub kept_stands : (disk : Told) (journal : Journal) (layouts : Layouts) (state : State) → IsHeldBy disk journal layouts state → (i : Image) → disk.leaves i → Stands i state
 kept_stands disk journal layouts state held i left = listed_stands i journal.area held.payloads journal.length layouts state (held.listed i left) (held.state_is i left)
+
+-- a store that is kept is held
+pub kept_held : {disk : Told} {store : Store} {state : State} → Kept disk store state → IsHeld disk store state
+kept_held kept = record { accounts = kept.accounts; held = kept.held }
 
 -- and stays held where a crash leaves no other image
 pub held_rests : (old new : Told) (journal : Journal) (layouts : Layouts) (state : State) → NoMore old.leaves new.leaves → IsHeldBy old journal layouts state → IsHeldBy new journal layouts state

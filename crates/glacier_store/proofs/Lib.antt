@@ -1,11 +1,16 @@
 pub mod AccountLemmas
+pub mod ActionLemmas
 pub mod AdvanceLemmas
 pub mod ChangeLemmas
 pub mod CommitLemmas
+pub mod EndLemmas
 pub mod EventOfLemmas
 pub mod KeptLemmas
+pub mod OpenBodies
 pub mod OpenLemmas
 pub mod OutputLemmas
 pub mod RoomLemmas
+pub mod RowLemmas
 pub mod StepLemmas
 pub mod StreamLemmas
+pub mod UploadLemmas

@@ -1,23 +1,26 @@
 -- What an action and a moment make of an account is what their events make of it.
 use Rattle.std.specs.FinMap as map
 use Rattle.std.proofs.Common.{◌≡◌, ℕ, ◌≤◌, Bool, true, false, cond, List, [], Option, Some, None, Ok, Err, refl, sym, ◌∙◌, ap, subst, nat_le, not, arith}
-use Rattle.std.specs.Prelude.{Result, IfOk, is_none}
+use Rattle.std.specs.Prelude.{is_none}
 use Rattle.std.proofs.lemmas.Bool.{le-leb}
-use Rattle.glacier_http.specs.declared.reply.Reply.{Reply}
 use Rattle.glacier_job.specs.Pass.{freed, pass, pass_change, pass_is_event}
-use Rattle.glacier_machine.specs.AccountSteps.{by_look, by_row, step_of}
+use Rattle.glacier_machine.specs.AccountSteps.{step_of}
+use Rattle.glacier_machine.specs.Actions.{HasOrder, stores_body}
 use Rattle.glacier_machine.specs.Moments.{after_moment, moment_change}
 use Rattle.glacier_machine.specs.declared.action.Action.{Action}
 use Rattle.glacier_machine.specs.declared.action.Answer.{Answer}
-use Rattle.glacier_machine.specs.declared.action.Action.TheVariants.{CreateVault, DescribeVault, DeleteVault}
+use Rattle.glacier_machine.specs.declared.action.Action.TheVariants.{CreateVault, DescribeVault, DeleteVault, Upload, DeleteArchive, BeginJob, DescribeJob, JobOutput}
+use Rattle.glacier_job.specs.Beginning.{begin_row}
+use Rattle.glacier_job.specs.Finding.{found_job}
+use Rattle.glacier_lock.specs.Denied.{delete_archive_row}
 use Rattle.glacier_vault.specs.Deletions.{delete_row, deletion_refusal}
+use Rattle.glacier_vault.specs.Lawful.{IsLawful}
 use Rattle.glacier_replies.specs.Replies.{described}
 use Rattle.glacier_vault.specs.Account.{new_vault}
 use Rattle.glacier_vault.specs.Accounts.{Accounts, account_in}
 use Rattle.glacier_vault.specs.Named.{blobs_of}
 use Rattle.glacier_vault.specs.Rows.{Row, changed, changed_freeing, create_row, found, no_change, with_vaults}
 use Rattle.glacier_vault.specs.declared.event.Change.{Change}
-use Rattle.glacier_vault.specs.declared.event.Event.{Event}
 use Rattle.glacier_vault.specs.declared.event.Event.TheVariants as events
 use Rattle.glacier_vault.specs.declared.refusal.Refusal.{Refusal}
 use Rattle.glacier_vault.specs.declared.refusal.Refusal.TheVariants.{VaultLimit}
@@ -25,27 +28,13 @@ use Rattle.glacier_vault.specs.declared.rules.Rules.{Rules}
 use Rattle.glacier_vault.specs.declared.state.AccountState.{AccountState}
 use Rattle.glacier_vault.specs.declared.state.VaultState.{VaultState}
 use Rattle.glacier_vault.specs.declared.vault.TheConstants.{MOST_VAULTS}
-use Rattle.glacier_replay.specs.Changes.{body_in}
 use Rattle.glacier_replay.specs.Replayed.{Replay, after_event, replayed, where_fits, with_found}
 use Rattle.glacier_replay.proofs.BlobMaps.{is_account}
 use Rattle.glacier_replay.proofs.SettledLemmas.{account_after}
-use Rattle.glacier_store.specs.Steps.{HasPassed, IsChangeOf, IsMadeBy, accounts_after, change_events, time_events}
+use Rattle.glacier_store.specs.Steps.{HasPassed, IsChangeOf, IsMadeBy, accounts_after, action_events, change_events, time_events}
+use Rattle.glacier_store.proofs.ActionLemmas.{archive_deletion_made, beginning_made}
 use Rattle.glacier_store.proofs.ChangeLemmas.{after_change}
-
--- an event without a body that fits at a moment makes what it does
-made : (before : AccountState) (m : ℕ) (event : Event) (after : AccountState) (freed : List ℕ) → before.last ≤ m → body_in event ≡ None
-    → after_event before m event ≡ Some (after, freed) → IsMadeBy before m (record { event = Some event; freed = freed }) after
-made before m event after freed time plain fits =
-    (plain, ap (λ (b : Bool). cond b (after_event before m event) None) (le-leb before.last m time) ∙ fits)
-
--- what a row makes of the account is what its event does
-abbrev RowMakes : AccountState → ℕ → Row Change → Type 0
-RowMakes before m row = IfOk row (λ done. IsMadeBy before m done.1 done.0)
-
-by_row_made : (before : AccountState) (m : ℕ) (row : Row Change) (reply : Reply) → RowMakes before m row
-    → IsMadeBy before m (by_row before row reply).answer.change (by_row before row reply).state
-by_row_made before m (Ok done) reply makes = makes
-by_row_made before m (Err refusal) reply makes = refl
+use Rattle.glacier_store.proofs.RowLemmas.{RowMakes, look_made, look_stores_none, made, output_changes_nothing, row_made_with, row_stores_none}
 
 abbrev with_new : AccountState → ℕ → List ℕ → AccountState
 with_new before m name = with_vaults before m (map.insert before.vaults name (new_vault m))
@@ -90,15 +79,37 @@ deletion_made before m name time = at (map.get before.vaults name) refl
     at (Some vault) e = in_refusal vault e (deletion_refusal vault) refl
 
 -- what an action changes is what its event makes of the account
-pub step_made : (rules : Rules) (m : ℕ) (action : Action) (before : AccountState) → before.last ≤ m
-    → IsMadeBy before m (step_of rules m action before).answer.change (step_of rules m action before).state
-step_made rules m (CreateVault name) before time = by_row_made before m (create_row before m name) _ (creation_made before m name time)
-step_made rules m (DescribeVault name) before time = looked (found before name)
-  where
-    looked : (r : Result VaultState Refusal) → IsMadeBy before m (by_look before r (described rules name)).answer.change (by_look before r (described rules name)).state
-    looked (Ok vault) = refl
-    looked (Err refusal) = refl
-step_made rules m (DeleteVault name) before time = by_row_made before m (delete_row before m name) _ (deletion_made before m name time)
+pub step_made : (rules : Rules) (m : ℕ) (action : Action) (body : List ℕ) (before : AccountState) → before.last ≤ m → IsLawful before → HasOrder action → stores_body action ≡ false
+    → IsMadeBy before m (step_of rules m action body before).answer.change (step_of rules m action body before).state
+step_made rules m (CreateVault name) body before time lawful order plain = row_made_with None before m (create_row before m name) _ (creation_made before m name time)
+step_made rules m (DescribeVault name) body before time lawful order plain = look_made before m (found before name) (described rules name)
+step_made rules m (DeleteVault name) body before time lawful order plain = row_made_with None before m (delete_row before m name) _ (deletion_made before m name time)
+step_made rules m (Upload ask) body before time lawful order plain = cc
+step_made rules m (DeleteArchive name archive) body before time lawful order plain =
+    row_made_with None before m (delete_archive_row rules before m name archive) _ (archive_deletion_made rules before m name archive time)
+step_made rules m (BeginJob ask) body before time lawful order plain = row_made_with None before m (begin_row rules before m ask) _ (beginning_made rules before m ask time lawful order)
+step_made rules m (DescribeJob name job) body before time lawful order plain = look_made before m (found_job before name job) _
+step_made rules m (JobOutput name job range) body before time lawful order plain =
+    subst (λ (c : Change). IsMadeBy before m c before) (sym (output_changes_nothing before name range [] (found_job before name job))) refl
+
+-- and it stores no byte
+plain_stores_none : (rules : Rules) (m : ℕ) (action : Action) (body : List ℕ) (before : AccountState) → stores_body action ≡ false → (step_of rules m action body before).stored ≡ []
+plain_stores_none rules m (CreateVault name) body before plain = row_stores_none before (create_row before m name) _
+plain_stores_none rules m (DescribeVault name) body before plain = look_stores_none before (found before name) (described rules name)
+plain_stores_none rules m (DeleteVault name) body before plain = row_stores_none before (delete_row before m name) _
+plain_stores_none rules m (Upload ask) body before plain = cc
+plain_stores_none rules m (DeleteArchive name archive) body before plain = row_stores_none before (delete_archive_row rules before m name archive) _
+plain_stores_none rules m (BeginJob ask) body before plain = row_stores_none before (begin_row rules before m ask) _
+plain_stores_none rules m (DescribeJob name job) body before plain = look_stores_none before (found_job before name job) _
+plain_stores_none rules m (JobOutput name job range) body before plain = refl
+
+-- so its events are those of its change
+pub plain_events : (rules : Rules) (m : ℕ) (action : Action) (accounts : Accounts) (answer : Answer) → stores_body action ≡ false
+    → answer ≡ (step_of rules m action [] (account_in accounts rules.account)).answer → change_events rules.account m answer.change [] ≡ action_events rules m action [] accounts
+plain_events rules m action accounts answer plain is =
+    ap (λ (a : Answer). change_events rules.account m a.change []) is
+    ∙ ap (λ (b : List ℕ). change_events rules.account m (step_of rules m action [] (account_in accounts rules.account)).answer.change b)
+    (sym (plain_stores_none rules m action [] (account_in accounts rules.account) plain))
 
 -- and what a moment does
 pub moment_made : (m : ℕ) (before : AccountState) → before.last ≤ m → IsMadeBy before m (moment_change m before) (after_moment m before)
@@ -109,11 +120,11 @@ moment_made m before time = at (pass_is_event m before)
     at false = refl
 
 -- the same of what they leave
-pub acted_made : (rules : Rules) (m : ℕ) (action : Action) (before after : AccountState) (answer : Answer) → before.last ≤ m
-    → answer ≡ (step_of rules m action before).answer → after ≡ (step_of rules m action before).state → IsMadeBy before m answer.change after
-acted_made rules m action before after answer time answer_is after_is =
+pub acted_made : (rules : Rules) (m : ℕ) (action : Action) (before after : AccountState) (answer : Answer) → before.last ≤ m → IsLawful before → HasOrder action → stores_body action ≡ false
+    → answer ≡ (step_of rules m action [] before).answer → after ≡ (step_of rules m action [] before).state → IsMadeBy before m answer.change after
+acted_made rules m action before after answer time lawful order plain answer_is after_is =
     subst (λ (s : AccountState). IsMadeBy before m answer.change s) (sym after_is)
-    (subst (λ (a : Answer). IsMadeBy before m a.change (step_of rules m action before).state) (sym answer_is) (step_made rules m action before time))
+    (subst (λ (a : Answer). IsMadeBy before m a.change (step_of rules m action [] before).state) (sym answer_is) (step_made rules m action [] before time lawful order plain))
 
 pub aged_made : (m : ℕ) (before after : AccountState) (change : Change) → before.last ≤ m → change ≡ moment_change m before → after ≡ after_moment m before → IsMadeBy before m change after
 aged_made m before after change time change_is after_is =
@@ -122,7 +133,7 @@ aged_made m before after change time change_is after_is =
 
 -- where nothing is due no event is made
 pub no_time : (k : List ℕ) (m : ℕ) (accounts : Accounts) → pass_is_event m (account_in accounts k) ≡ false → time_events k m accounts ≡ []
-no_time k m accounts is = ap (λ (b : Bool). change_events k m (cond b (pass_change m (account_in accounts k)) no_change)) is
+no_time k m accounts is = ap (λ (b : Bool). change_events k m (cond b (pass_change m (account_in accounts k)) no_change) []) is
 
 first_same : (one other : AccountState) (xs ys : List ℕ) → ◌≡◌ {A = Replay} (Some (one, xs)) (Some (other, ys)) → one ≡ other
 first_same one other xs ys is = ap (λ (r : Replay). elim r as (λ _. AccountState) [ None ↦ one | Some p ↦ p.0 ]) is
@@ -133,7 +144,7 @@ pub has_passed : (before after : Accounts) (k : List ℕ) (m : ℕ) (change : Ch
 has_passed before after k m change is changes time =
     let by_time : IsChangeOf before after k m (moment_change m (account_in before k)) = subst (λ (c : Change). IsChangeOf before after k m c) is changes in
     record {
-      after_is = subst (λ (c : Change). after ≡ accounts_after before (change_events k m c)) is (after_change before after k m change.event change.freed changes);
+      after_is = subst (λ (c : Change). after ≡ accounts_after before (change_events k m c [])) is (after_change None before after k m change.event change.freed [] changes);
       last = at (pass_is_event m (account_in before k)) by_time;
     }
   where

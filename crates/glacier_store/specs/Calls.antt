@@ -1,7 +1,7 @@
 -- What each call of a store makes of the disk, and why it fails.
 use Rattle.std.specs.Prelude.{◌≡◌, ◌⊎◌, ℕ, ◌+◌, ◌<◌, ◌≤◌, ◌^◌, true, List, [], Some, None, Result, IfOk, OnOk, IfErr, IsErrOf, length}
 use Rattle.std.specs.FinMap as map
-use Rattle.glacier_bodies.specs.BlobAreas.{AreaState, IsOpen}
+use Rattle.glacier_bodies.specs.BlobAreas.{AreaState, IsOpen, with_blob}
 use Rattle.glacier_bodies.specs.Blobs.{IsApart}
 use Rattle.glacier_bodies.specs.Bodies.{HasTaken, body_runs}
 use Rattle.glacier_bodies.specs.declared.body.Body.{Body}
@@ -26,7 +26,7 @@ use Rattle.glacier_vault.specs.Accounts.{Accounts, account_in, AccountEvent}
 use Rattle.glacier_replay.specs.Changes.{State, change_in, without_blobs}
 use Rattle.glacier_replay.specs.Made.{IsRest, record_of}
 use Rattle.glacier_replay.specs.Standing.{Stands}
-use Rattle.glacier_store.specs.Kept.{Changes, IsHeldBy, Kept, IsRestBeside, Reads, ReadsAs, Refuses, Stays}
+use Rattle.glacier_store.specs.Kept.{Changes, IsHeld, IsHeldBy, Kept, IsRestBeside, Reads, ReadsAs, Refuses, Stays}
 use Rattle.glacier_store.specs.declared.fault.StoreFault.{StoreFault}
 use Rattle.glacier_store.specs.declared.fault.StoreFault.TheVariants as fault
 use Rattle.glacier_store.specs.declared.store.Store.{Store}
@@ -80,14 +80,22 @@ pub record Commits (old new : Told) (journal : Journal) (area : AreaState) (own 
     (result : Result Store StoreFault) : Type 0 where
   pub any_moment : IsHeldBy old journal area.blobs before → Changes old new before after
   pub memory : IsHeldBy old journal area.blobs before → IsErrOf result fault.Memory → Stays old new before
+  pub held : IsHeldBy old journal area.blobs before → IfOk result (λ store. IsHeld new store after)
   pub kept : IsHeldBy old journal area.blobs before → IsRestBeside own area.free area.blobs
       → IfOk result (λ store. Kept new store after)
   pub touches : Touches journal.area old new
 
--- blobs of an account went, each other blob stays where it was, and all blocks that no blob has are free if they were
+-- blobs of an account went, each other blob stays where it was, all blocks that no blob has are free if they were, and
+-- open bodies stay open
 pub record HasFreed (old new : AreaState) (account numbers : List ℕ) : Type 0 where
   pub blobs : new.blobs ≡ without_blobs old.blobs account numbers
   pub rest : AreApart old.blobs → IsRest old.free old.blobs → IsRest new.free new.blobs
+  pub others : (runs : List Run) → IsOpen old runs → IsOpen new runs
+
+-- an open body became a blob of an account, and then blobs of it went; the bodies that were open beside it stay open
+pub record HasNamed (old new : AreaState) (account : List ℕ) (number : ℕ) (own : List Run) (numbers : List ℕ) : Type 0 where
+  pub freed : HasFreed (record { free = old.free; blobs = with_blob old.blobs account number own }) new account numbers
+  pub others : (runs : List Run) → IsOpen old runs → IsApart (has_block own) runs → IsOpen new runs
 
 -- the bytes that an event's record takes in the journal
 abbrev pub record_room : AccountEvent → List Run → ℕ

@@ -32,6 +32,11 @@ pub record IsRestBeside (own free : List Run) (layouts : Layouts) : Type 0 where
   pub rest : IsRest whole layouts
   pub taken : (b : ℕ) → has_block free b ≡ (has_block whole b && not (has_block own b))
 
+-- a store is held: its journal makes its accounts and its blobs; other blocks may be those of open bodies
+pub record IsHeld (disk : Told) (store : Store) (state : State) : Type 0 where
+  pub accounts : store.accounts ≡ state.accounts
+  pub held : IsHeldBy disk store.journal store.area.blobs state
+
 -- a store is kept: its journal makes its accounts and its blobs, and all other blocks are free
 pub record Kept (disk : Told) (store : Store) (state : State) : Type 0 where
   pub accounts : store.accounts ≡ state.accounts

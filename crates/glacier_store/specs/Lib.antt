@@ -1,5 +1,6 @@
 pub mod Calls
 pub mod Drawn
+pub mod Endings
 pub mod Faults
 pub mod Kept
 pub mod Outputs

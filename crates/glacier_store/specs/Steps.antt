@@ -1,5 +1,5 @@
 -- What time and what is asked for make of a store: their events, the accounts after them, and what is kept.
-use Rattle.std.specs.Prelude.{◌≡◌, ◌⊎◌, ℕ, ◌+◌, ◌<◌, ◌≤◌, ◌^◌, List, [], ◌∷◌, Some, None, Result, Ok, Err, IfOk, OnOk, IfErr, IsErrOf}
+use Rattle.std.specs.Prelude.{◌≡◌, ◌⊎◌, ℕ, ◌+◌, ◌<◌, ◌≤◌, ◌^◌, List, [], ◌∷◌, Option, Some, None, Result, Ok, Err, IfOk, OnOk, IfErr, IsErrOf}
 use Rattle.glacier_disk.specs.Moments.{Looks}
 use Rattle.glacier_disk.specs.Told.{Told}
 use Rattle.glacier_disk.specs.Touches.{Touches}
@@ -14,7 +14,7 @@ use Rattle.glacier_vault.specs.declared.state.AccountState.{AccountState}
 use Rattle.glacier_vault.specs.Accounts.{AccountEvent, Accounts, account_in}
 use Rattle.glacier_replay.specs.Changes.{State, accounts_after as after_one, after_all, body_in, change_in}
 use Rattle.glacier_replay.specs.Replayed.{replayed}
-use Rattle.glacier_store.specs.Kept.{Changes, Kept, Stays}
+use Rattle.glacier_store.specs.Kept.{Changes, IsHeld, Kept, Stays}
 use Rattle.glacier_store.specs.Calls.{IsEventOf, event_at, record_room}
 use Rattle.glacier_store.specs.declared.fault.StoreFault.{StoreFault}
 use Rattle.glacier_store.specs.declared.fault.StoreFault.TheVariants as fault
@@ -26,32 +26,41 @@ accounts_after accounts [] = accounts
 accounts_after accounts (h ∷ more) =
     accounts_after (after_one accounts h.account (change_in accounts h.account h.moment h.event)) more
 
--- the event of a change that has no body, if the change has an event
-abbrev pub change_events : List ℕ → ℕ → Change → List AccountEvent
-change_events account m change = events_of account m change.event
+-- the event of a change with the bytes that it stores, if the change has an event
+abbrev pub change_events : List ℕ → ℕ → Change → List ℕ → List AccountEvent
+change_events account m change body = events_of account m change.event body
 
 -- the events of the time that passes for an account until the moment m
 abbrev pub time_events : List ℕ → ℕ → Accounts → List AccountEvent
-time_events account m accounts = change_events account m (moment_change m (account_in accounts account))
+time_events account m accounts = change_events account m (moment_change m (account_in accounts account)) []
 
--- the events of an action at the moment m
-abbrev pub action_events : Rules → ℕ → Action → Accounts → List AccountEvent
-action_events rules m action accounts =
-    change_events rules.account m (step_of rules m action (account_in accounts rules.account)).answer.change
+-- the events of an action at the moment m, of which this is the body
+abbrev pub action_events : Rules → ℕ → Action → List ℕ → Accounts → List AccountEvent
+action_events rules m action body accounts =
+    change_events rules.account m (step_of rules m action body (account_in accounts rules.account)).answer.change
+    (step_of rules m action body (account_in accounts rules.account)).stored
 
--- a change makes of an account what its event does, which has no body, and nothing where it has no event
-abbrev pub IsMadeBy : AccountState → ℕ → Change → AccountState → Type 0
-IsMadeBy before m change after = elim change.event [
+-- a change makes of an account what its event does, whose body has this size and these leaves, and nothing where it has
+-- no event
+abbrev pub IsMadeWith : Option (ℕ × List (List ℕ)) → AccountState → ℕ → Change → AccountState → Type 0
+IsMadeWith told before m change after = elim change.event [
   | None ↦ after ≡ before
-  | Some event ↦ (body_in event ≡ None) × (replayed before m event ≡ Some (after, change.freed))
+  | Some event ↦ (body_in event ≡ told) × (replayed before m event ≡ Some (after, change.freed))
 ]
 
 -- the same of all accounts, of which one changes
-abbrev pub IsChangeOf : Accounts → Accounts → List ℕ → ℕ → Change → Type 0
-IsChangeOf before after account m change = elim change.event [
+abbrev pub IsChangeWith : Option (ℕ × List (List ℕ)) → Accounts → Accounts → List ℕ → ℕ → Change → Type 0
+IsChangeWith told before after account m change = elim change.event [
   | None ↦ after ≡ before
-  | Some event ↦ (body_in event ≡ None) × IsEventOf before after (event_at account m event []) change.freed
+  | Some event ↦ (body_in event ≡ told) × IsEventOf before after (event_at account m event []) change.freed
 ]
+
+-- the same of an event that has no body
+abbrev pub IsMadeBy : AccountState → ℕ → Change → AccountState → Type 0
+IsMadeBy before m change after = IsMadeWith None before m change after
+
+abbrev pub IsChangeOf : Accounts → Accounts → List ℕ → ℕ → Change → Type 0
+IsChangeOf before after account m change = IsChangeWith None before after account m change
 
 -- time passed for an account until the moment m, which isn't before its last moment then
 pub record HasPassed (before after : Accounts) (account : List ℕ) (m : ℕ) : Type 0 where
@@ -63,13 +72,14 @@ abbrev pub store_left : {T : Type 0} → Result (Store × T) StoreFault → Resu
 store_left (Ok done) = Ok done.0
 store_left (Err why) = Err why
 
--- A store goes on by the event of a call, or stays where there is none: if it was kept, a crash at any moment of the
--- call leaves the state before it or the one after it. Only the journal's area is written, and where there is no event
--- nothing is.
+-- A store goes on by the event of a call, or stays where there is none: if it was held, it is still, and a crash at any
+-- moment of the call leaves the state before it or the one after it, whether bodies are open or not. Only the journal's
+-- area is written, and where there is no event nothing is.
 pub record Advances (old new : Told) (store : Store) (happened : List AccountEvent) (result : Result Store StoreFault)
     : Type 0 where
-  pub any_moment : (state : State) → Kept old store state → Changes old new state (after_all state happened)
-  pub memory : (state : State) → Kept old store state → IsErrOf result fault.Memory → Stays old new state
+  pub any_moment : (state : State) → IsHeld old store state → Changes old new state (after_all state happened)
+  pub memory : (state : State) → IsHeld old store state → IsErrOf result fault.Memory → Stays old new state
+  pub held : (state : State) → IsHeld old store state → IfOk result (λ done. IsHeld new done (after_all state happened))
   pub kept : (state : State) → Kept old store state → IfOk result (λ done. Kept new done (after_all state happened))
   pub touches : Touches store.journal.area old new
   pub idle : happened ≡ [] → Looks old new

@@ -1,6 +1,7 @@
 // What is asked of an account of a store.
-ghost use Rattle.std.specs.Prelude.{◌≡◌, ◌≤◌, true, IsTrue, IfOk};
+ghost use Rattle.std.specs.Prelude.{◌≡◌, ◌≤◌, [], true, false, IsTrue, IfOk};
 ghost use Rattle.glacier_machine.specs.AccountSteps.{step_of};
+ghost use Rattle.glacier_machine.specs.Actions.{HasOrder, stores_body};
 ghost use Rattle.glacier_vault.specs.Accounts.{account_in};
 ghost use Rattle.glacier_store.specs.Calls.{StoreCall};
 ghost use Rattle.glacier_store.specs.Steps.{Advances, Grows, accounts_after, action_events, store_left, room_of};
@@ -28,16 +29,18 @@ impl Store {
     ) -> Result<(Store, Answer), StoreFault>
         requires open { (D.told disk.old).opened ≡ true }
         requires time { (account_in self.accounts rules.now.account).last ≤ m }
+        requires plain { stores_body action.now ≡ false }
+        requires order { HasOrder action.now }
 
         ensures answer { IfOk result (λ done. done.1 ≡
-            (step_of rules.now m action.now (account_in self.accounts rules.now.account)).answer) }
+            (step_of rules.now m action.now [] (account_in self.accounts rules.now.account)).answer) }
         ensures accounts { IfOk result (λ done. done.0.accounts ≡
-            accounts_after self.accounts (action_events rules.now m action.now self.accounts)) }
+            accounts_after self.accounts (action_events rules.now m action.now [] self.accounts)) }
 
         ensures advances { IsTrue D.tells → Advances (D.told disk.old) (D.told disk.new) self
-            (action_events rules.now m action.now self.accounts) (store_left result) }
+            (action_events rules.now m action.now [] self.accounts) (store_left result) }
         ensures grows { Grows self.journal
-            (room_of (action_events rules.now m action.now self.accounts)) (store_left result) }
+            (room_of (action_events rules.now m action.now [] self.accounts)) (store_left result) }
         ensures call { StoreCall (D.told disk.old) (D.told disk.new) result }
         ensures alone { D.by_disk disk.old disk.new }
     {

@@ -1,15 +1,15 @@
 // What a change makes of the accounts, and the keeping of its event.
-ghost use Rattle.std.specs.Prelude.{◌≡◌, ◌≤◌, ◌||◌, [], None, true, IsSome, IsTrue, IfOk, IfSome};
+ghost use Rattle.std.specs.Prelude.{◌≡◌, ◌≤◌, ◌||◌, [], None, true, false, IsSome, IsTrue, IfOk, IfSome};
 ghost use Rattle.std.specs.Option.{is_some};
 ghost use Rattle.glacier_disk.specs.Moments.{Looks};
 ghost use Rattle.glacier_machine.specs.AccountSteps.{step_of};
+ghost use Rattle.glacier_machine.specs.Actions.{HasOrder, stores_body};
 ghost use Rattle.glacier_machine.specs.Moments.{moment_change};
 ghost use Rattle.glacier_vault.specs.Accounts.{account_in};
 ghost use Rattle.glacier_replay.specs.Changes.{State, after_all, body_in};
 ghost use Rattle.glacier_replay.specs.Replayed.{replayed};
 ghost use Rattle.glacier_vault.specs.declared.state.AccountState.{AccountState as StateOf};
-ghost use Rattle.glacier_store.specs.Calls.{StoreCall};
-ghost use Rattle.glacier_store.specs.Calls.{Commits};
+ghost use Rattle.glacier_store.specs.Calls.{Commits, StoreCall};
 ghost use Rattle.glacier_store.specs.Steps.{Grows, IsChangeOf, change_events, room_of};
 
 use crate::{Store, StoreFault};
@@ -21,13 +21,13 @@ use glacier_vault::{Change, Rules};
 use std::alloc::Global;
 
 /// Whether an account is kept: it was there, or it has an event.
-fn is_known(known: bool, change: &Change) -> bool
+pub(crate) fn is_known(known: bool, change: &Change) -> bool
     ensures { result ≡ (known || is_some change.now.event) }
 {
     known || change.event.is_some()
 }
 
-/// Does an action on an account, and puts what it changes into the accounts. An error is want of
+/// Does an action that has no body on an account, and puts what it changes into the accounts. An error is want of
 /// memory.
 pub(crate) fn acted(
     accounts: &mut Accounts,
@@ -36,9 +36,11 @@ pub(crate) fn acted(
     m: Moment,
     action: &Action,
 ) -> Result<Answer, Memory>
-    requires { (account_in accounts.old rules.now.account).last ≤ m }
+    requires time { (account_in accounts.old rules.now.account).last ≤ m }
+    requires plain { stores_body action.now ≡ false }
+    requires order { HasOrder action.now }
     ensures answer { IfOk result (λ answer. answer ≡
-        (step_of rules.now m action.now (account_in accounts.old rules.now.account)).answer) }
+        (step_of rules.now m action.now [] (account_in accounts.old rules.now.account)).answer) }
     ensures accounts { IfOk result (λ answer.
         IsChangeOf accounts.old accounts.new rules.now.account m answer.change) }
 {
@@ -90,9 +92,9 @@ pub(crate) fn keep_change<D: Disk>(
     ensures keeps { IsTrue D.tells → (before : State) →
         IsChangeOf before.accounts store.accounts account.now m change.now →
         Commits (D.told disk.old) (D.told disk.new) store.journal store.area [] before
-        (after_all before (change_events account.now m change.now)) result }
+        (after_all before (change_events account.now m change.now [])) result }
     ensures idle { IsTrue D.tells → change.now.event ≡ None → Looks (D.told disk.old) (D.told disk.new) }
-    ensures grows { Grows store.journal (room_of (change_events account.now m change.now)) result }
+    ensures grows { Grows store.journal (room_of (change_events account.now m change.now [])) result }
     ensures call { StoreCall (D.told disk.old) (D.told disk.new) result }
     ensures alone { D.by_disk disk.old disk.new }
 {

@@ -1,8 +1,8 @@
 // Keeping an event of a store in its journal.
 ghost use Rattle.std.specs.Prelude.{◌≡◌, ◌≤◌, ◌<◌, ◌+◌, ◌++◌, [], ◌∷◌, ℕ, List as Items, None, true, IsTrue, IsSome, IsErrOf, IfOk, length};
-ghost use Rattle.glacier_bodies.specs.BlobAreas.{IsOpen, with_blob};
+ghost use Rattle.glacier_bodies.specs.BlobAreas.{IsOpen};
 ghost use Rattle.glacier_bodies.specs.Blobs.{Holds};
-ghost use Rattle.glacier_bodies.specs.Stands.{AreApart, at_blob};
+ghost use Rattle.glacier_bodies.specs.Stands.{at_blob};
 ghost use Rattle.glacier_disk.specs.declared.area.Area.TheVariants.{Blobs};
 ghost use Rattle.glacier_extents.specs.declared.run.Run.{Run as RunOf};
 ghost use Rattle.glacier_extents.specs.FreeRuns.{blocks};
@@ -12,12 +12,11 @@ ghost use Rattle.glacier_journal.specs.Listed.{AllList, Payloads};
 ghost use Rattle.glacier_records.specs.Room.{EventHasRoom};
 ghost use Rattle.glacier_records.specs.Spells.{Spells};
 ghost use Rattle.glacier_vault.specs.Accounts.{account_in, AccountEvent};
-ghost use Rattle.glacier_replay.specs.Changes.{IsBodyOf, State, after_account_event, body_in, leaf_count, without_blobs};
-ghost use Rattle.glacier_replay.specs.Made.{IsRest, record_of};
+ghost use Rattle.glacier_replay.specs.Changes.{IsBodyOf, State, after_account_event, body_in, leaf_count};
+ghost use Rattle.glacier_replay.specs.Made.{record_of};
 ghost use Rattle.glacier_replay.specs.Replayed.{replayed};
 ghost use Rattle.glacier_vault.specs.declared.state.AccountState.{AccountState};
-ghost use Rattle.glacier_store.specs.Calls.{StoreCall};
-ghost use Rattle.glacier_store.specs.Calls.{HasFreed, IsEventOf, Commits, Lengthens, event_at, record_room};
+ghost use Rattle.glacier_store.specs.Calls.{Commits, HasFreed, HasNamed, IsEventOf, Lengthens, StoreCall, event_at, record_room};
 
 use crate::{Store, StoreFault};
 use glacier_base::{Account, List, Memory, Moment};
@@ -49,9 +48,7 @@ fn record_frame(
 
 /// Takes blobs away, and gives their blocks back. It takes no memory.
 fn give_back(area: &mut BlobArea, account: &Account, numbers: &[u64])
-    ensures blobs { area.new.blobs ≡ without_blobs area.old.blobs account.now numbers.now }
-    ensures rest { AreApart area.old.blobs → IsRest area.old.free area.old.blobs →
-        IsRest area.new.free area.new.blobs }
+    ensures { HasFreed area.old area.new account.now numbers.now }
 {
     for number in numbers {
         area.free_blob(account, *number);
@@ -70,10 +67,8 @@ fn append<D: Disk>(
     requires opened { (D.told disk.old).opened ≡ true }
 
     ensures accounts { IfOk result (λ done. done.accounts ≡ store.accounts) }
-    ensures blobs { IfOk result (λ done.
-        done.area.blobs ≡ without_blobs store.area.blobs account.now freed.now) }
-    ensures rest { IfOk result (λ done. AreApart store.area.blobs →
-        IsRest store.area.free store.area.blobs → IsRest done.area.free done.area.blobs) }
+    ensures area { IfOk result (λ done.
+        HasFreed store.area done.area account.now freed.now) }
 
     ensures appends { IsTrue D.tells → Appends store.journal.area store.journal.length
         frame.now (D.told disk.old) (D.told disk.new) }
@@ -166,10 +161,8 @@ impl Store {
         requires drawn { number < (account_in self.accounts account.now).counter }
 
         ensures accounts { IfOk result (λ done. done.accounts ≡ self.accounts) }
-        ensures area { IfOk result (λ done. HasFreed (record {
-          free = self.area.free;
-          blobs = with_blob self.area.blobs account.now number layout;
-        }) done.area account.now freed.now) }
+        ensures area { IfOk result (λ done.
+            HasNamed self.area done.area account.now number layout freed.now) }
         ensures keeps { IsTrue D.tells → (before : State) (body : Items ℕ) →
             IsEventOf before.accounts self.accounts (event_at account.now m event.now body) freed.now →
             number ≡ (account_in before.accounts account.now).counter →

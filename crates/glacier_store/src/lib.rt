@@ -4,6 +4,7 @@
 mod applying;
 mod changed;
 mod committing;
+mod ending;
 mod fault;
 pub mod laws;
 mod opening;

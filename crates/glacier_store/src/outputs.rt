@@ -1,5 +1,5 @@
 // The outputs of jobs, read from the blocks of their archives.
-ghost use Rattle.std.specs.Prelude.{◌≡◌, ◌≤◌, true, IsTrue, IfOk, length, take, drop};
+ghost use Rattle.std.specs.Prelude.{◌≡◌, ◌≤◌, ◌-◌, min, true, IsTrue, IfOk, IfSome, length, take, drop};
 ghost use Rattle.std.specs.Option.{option_copied};
 ghost use Rattle.glacier_bodies.specs.Calls.{BlobCall};
 ghost use Rattle.glacier_disk.specs.Calls.{Rests};
@@ -24,7 +24,8 @@ impl Store {
     }
 
     /// Fills the front of `into` with the bytes of a stretch of an archive, live or held, from a place
-    /// on, as far as it reaches, and says how many these are: none where there is no such archive.
+    /// on, as far as it reaches, and says how many these are: all that the stretch has from there on,
+    /// where it ends within the archive, and none where there is no such archive.
     /// An error is a fault of the disk. It changes nothing, and takes no memory.
     pub fn read_output<D: Disk>(
         &self,
@@ -40,6 +41,9 @@ impl Store {
             IfOk result (λ n. take n into.new ≡ take (length into.old)
             (drop at (stretch_bytes state account.now stretch.now))) }
         ensures within { IfOk result (λ n. n ≤ length into.old) }
+        ensures count { IfSome (archive_in self.now.accounts account.now stretch.now) (λ archive.
+            stretch.now.end ≤ archive.size → IfOk result (λ n.
+            n ≡ min (length into.old) (stretch.now.end - stretch.now.first - at))) }
         ensures rests { Rests (D.told disk.old) (D.told disk.new) }
         ensures alone { D.by_disk disk.old disk.new }
         ensures call { BlobCall (D.told disk.old) (D.told disk.new) result }

@@ -1,7 +1,7 @@
 // Bodies of a store: they stream into free blocks, and are read from theirs.
 ghost use Rattle.std.specs.Prelude.{◌≡◌, ◌≤◌, ◌<◌, ◌+◌, ◌%◌, ◌++◌, ℕ, List as Items, [], true, IsTrue, IfOk, OnOk, OnErr, length, take, drop};
 ghost use Rattle.std.specs.Int.{div_ceil};
-ghost use Rattle.glacier_bodies.specs.BlobAreas.{IsOpen, bytes_of};
+ghost use Rattle.glacier_bodies.specs.BlobAreas.{IsOpen, Releases, bytes_of};
 ghost use Rattle.glacier_bodies.specs.Blobs.{Holds};
 ghost use Rattle.glacier_bodies.specs.Bodies.{HasTaken, Takes, body_room, body_runs, body_taken};
 ghost use Rattle.glacier_bodies.specs.Calls.{BlobCall};
@@ -77,6 +77,7 @@ impl Store {
     /// Gives back the blocks of a body that was cut, or isn't to be kept. It takes no memory.
     pub fn drop_body(&mut self, body: Body)
         requires { IsOpen self.old.area (body_runs body) }
+        ensures released { Releases self.old.area self.new.area (body_runs body) }
         ensures rest { IsRestBeside (body_runs body) self.old.area.free self.old.area.blobs →
             IsRest self.new.area.free self.new.area.blobs }
         ensures same { OnlyFree self.old self.new }
@@ -87,6 +88,7 @@ impl Store {
     /// Gives back the blocks of a body that becomes no blob. It takes no memory.
     pub fn release(&mut self, layout: Layout)
         requires { IsOpen self.old.area layout }
+        ensures released { Releases self.old.area self.new.area layout }
         ensures rest { IsRestBeside layout self.old.area.free self.old.area.blobs →
             IsRest self.new.area.free self.new.area.blobs }
         ensures same { OnlyFree self.old self.new }

@@ -1,4 +1,4 @@
-use Rattle.std.proofs.Common.{◌≤◌, ◌∙◌, ap, sym, subst, Bool, ◌||◌}
+use Rattle.std.proofs.Common.{None, ◌≤◌, ◌∙◌, ap, sym, subst, Bool, ◌||◌}
 use Rattle.std.specs.Option.{is_some}
 use Rattle.glacier_vault.specs.declared.state.AccountState.{AccountState}
 use Rattle.glacier_store.proofs.ChangeLemmas.{changed_accounts}
@@ -9,7 +9,7 @@ pub returns-clause-accounts : goal.returns-clause-accounts
 returns-clause-accounts c =
     let change = c.in_ok-change.change in
     let before = c.take-state.result in
-    changed_accounts c.args.accounts.now c.args.account.now c.args.m before c.pass.new.state change c.is_known-keep.result c.take-state.new.self c.put_if.new.self
+    changed_accounts None c.args.accounts.now c.args.account.now c.args.m before c.pass.new.state change c.is_known-keep.result c.take-state.new.self c.put_if.new.self
     c.take-state.ensures.rest c.take-state.ensures.state c.take-state.ensures.lawful
     (aged_made c.args.m before c.pass.new.state change
     (subst (λ (s : AccountState). s.last ≤ c.args.m) (sym c.take-state.ensures.state) c.requires)

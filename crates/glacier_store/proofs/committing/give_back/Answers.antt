@@ -4,6 +4,7 @@ use Rattle.glacier_replay.specs.Changes.{without_blobs}
 use Rattle.glacier_replay.specs.Made.{IsRest}
 use Rattle.glacier_replay.proofs.BlobMaps.{without_next}
 use Rattle.glacier_replay.proofs.RestLemmas.{apart_without, rest_without}
+use Rattle.glacier_store.proofs.OpenBodies.{named_apart}
 use Rattle.glacier_store.proofs.committing.give_back.Goals as goal
 
 pub loop-number-preserved : goal.loop-number-preserved
@@ -20,4 +21,5 @@ loop-number-preserved c =
       apart = λ apart. subst AreApart (sym gone) (apart_without area.blobs account number (so_far.apart apart));
       rest = λ apart before. subst (λ (m : Layouts). IsRest c.free_blob.new.self.free m) (sym gone)
           (rest_without area.free area.blobs (so_far.rest apart before) (so_far.apart apart) account number c.free_blob.new.self.free c.free_blob.ensures.released.blocks_are);
+      others = λ runs opened. c.free_blob.ensures.released.others runs (so_far.others runs opened) (named_apart area runs (so_far.others runs opened) account number);
     }

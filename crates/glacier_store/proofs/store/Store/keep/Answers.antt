@@ -43,5 +43,4 @@ returns-clause-keeps g c t before event =
     (subst (λ (runs : List Run). Spells frame (record_of h runs)) c.new-runs.ensures c.in_ok-frame.ensures)
     (none_open area) (sym (no_leaf c.args.event.now c.requires.plain)) (no_body c.args.event.now c.requires.plain) refl
     area (sym (ap (λ new. with_new area.blobs c.args.account.now new) (no_new (account_in before.accounts c.args.account.now).counter c.args.event.now [] c.requires.plain)))
-    (λ apart. apart) (rest_alone area.free area.blobs) (c.append.ensures.appends t) c.append.result (c.append.ensures.acknowledged t) c.append.ensures.accounts c.append.ensures.blobs
-    c.append.ensures.rest c.append.ensures.no_memory
+    (λ apart. apart) (rest_alone area.free area.blobs) (c.append.ensures.appends t) c.append.result (c.append.ensures.acknowledged t) c.append.ensures.accounts c.append.ensures.area c.append.ensures.no_memory

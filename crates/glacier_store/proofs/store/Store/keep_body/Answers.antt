@@ -1,4 +1,5 @@
 use Rattle.std.proofs.Common.{◌≡◌, rules, Err, List, length, ◌∙◌, sym, ap, subst, arith}
+use Rattle.std.proofs.lemmas.Result.{IfOk-weaker}
 use Rattle.std.specs.Prelude.{Result}
 use Rattle.glacier_extents.specs.declared.run.Run.{Run}
 use Rattle.glacier_extents.specs.FreeRuns.{blocks}
@@ -14,6 +15,7 @@ use Rattle.glacier_store.specs.Drawn.{AreDrawn}
 use Rattle.glacier_store.specs.Calls.{event_at}
 use Rattle.glacier_store.proofs.EventOfLemmas.{drawn_with, its_new, rest_named}
 use Rattle.glacier_store.proofs.CommitLemmas.{kept_by_append, kept_without_memory}
+use Rattle.glacier_store.proofs.OpenBodies.{has_named}
 use Rattle.glacier_store.proofs.RoomLemmas.{body_room, runs_few}
 use Rattle.glacier_store.specs.declared.fault.StoreFault.{StoreFault}
 use Rattle.glacier_store.specs.declared.fault.StoreFault.TheVariants.{Memory}
@@ -69,5 +71,11 @@ returns-clause-keeps g c t before body event counter its stored =
     (λ beside. subst (λ (l : Layouts). IsRest named.free l) (sym c.in_ok-name_blob.ensures.ok)
     (subst (λ (f : List Run). IsRest f (with_blob area.blobs account c.args.number own)) (sym c.name_blob.ensures.free)
     (rest_named own area.free area.blobs account c.args.number c.requires.fresh beside)))
-    (c.append.ensures.appends t) c.append.result (c.append.ensures.acknowledged t) c.append.ensures.accounts c.append.ensures.blobs
-    c.append.ensures.rest c.append.ensures.no_memory
+    (c.append.ensures.appends t) c.append.result (c.append.ensures.acknowledged t) c.append.ensures.accounts c.append.ensures.area c.append.ensures.no_memory
+
+pub returns-clause-area : goal.returns-clause-area
+returns-clause-area g c =
+    IfOk-weaker c.append.result _ _
+    (λ (done : Store) freed. has_named c.args.self.area c.name_blob.new.self done.area c.args.account.now c.args.number c.args.layout c.args.freed.now
+    c.name_blob.ensures.free c.in_ok-name_blob.ensures.ok freed)
+    c.append.ensures.area

@@ -1,4 +1,4 @@
-use Rattle.std.proofs.Common.{◌≡◌, ◌∙◌, rules, Err, false, sym, subst}
+use Rattle.std.proofs.Common.{None, [], ◌≡◌, ◌∙◌, rules, Err, false, sym, subst}
 use Rattle.std.proofs.lemmas.Result.{IfOk-weaker}
 use Rattle.std.specs.Prelude.{Result}
 use Rattle.glacier_vault.specs.Accounts.{Accounts}
@@ -27,7 +27,7 @@ returns-in_err-change-clause-advances g c t =
 pub invariant_of-store : goal.invariant_of-store
 invariant_of-store g c =
     let change = c.in_ok-change.change in
-    record { drawn = drawn_after c.args.self.accounts c.aged.new.accounts c.args.account.now c.args.m change.event change.freed c.args.self.area.blobs c.in_ok-change.ensures.accounts c.args.self.drawn }
+    record { drawn = drawn_after None c.args.self.accounts c.aged.new.accounts c.args.account.now c.args.m change.event change.freed c.args.self.area.blobs c.in_ok-change.ensures.accounts c.args.self.drawn }
 
 pub keep_change-requires-clause-fits : goal.keep_change-requires-clause-fits
 keep_change-requires-clause-fits g c =
@@ -46,6 +46,6 @@ returns-clause-advances g c t =
     let old = g.D.Disk.told c.args.disk.now in
     let new = g.D.Disk.told c.keep_change.new.disk in
     let k = c.args.account.now in
-    subst (λ (x : Change). Advances old new c.args.self (change_events k c.args.m x) c.keep_change.result) c.in_ok-change.ensures.change
+    subst (λ (x : Change). Advances old new c.args.self (change_events k c.args.m x []) c.keep_change.result) c.in_ok-change.ensures.change
     (change_advances old new c.args.self c.aged.new.accounts k c.args.m c.in_ok-change.change c.keep_change.result c.in_ok-change.ensures.accounts
     (c.keep_change.ensures.keeps t) (c.keep_change.ensures.idle t))

@@ -1,4 +1,5 @@
 use Rattle.std.proofs.Common.{◌≡◌, ◌≤◌, ◌<◌, ℕ, ◌+◌, ◌-◌, min, List, Some, length, take, drop, refl, sym, ◌∙◌, ap, subst, arith}
+use Rattle.std.specs.Prelude.{IfSome}
 use Rattle.glacier_bodies.specs.BlobAreas.{bytes_of}
 use Rattle.glacier_disk.specs.Told.{Lawful}
 use Rattle.glacier_vault.specs.Accounts.{account_in}
@@ -27,3 +28,11 @@ returns-clause-bytes g c t state same held =
     stretch_read bytes stretch.first stretch.end c.args.at (length c.args.into.now) c.min-n.result archive.size 18446744073709551615 c.saturating_add-place.result c.min-end.result
     c.args.into.now c.read_body.new.into (drop c.min-n.result c.args.into.now) told.size_is c.saturating_add-place.ensures c.min-end.ensures (omega (arith, fits)) count refl part (read told)
     ∙ ap (λ found. take (length c.args.into.now) (drop c.args.at (take (stretch.end - stretch.first) (drop stretch.first (archive_bytes state account found))))) (sym stored)
+
+pub returns-clause-count : goal.returns-clause-count
+returns-clause-count g c =
+    let stretch = c.args.stretch.now in
+    let fits : c.min-end.result < 18446744073709551616 = c.min-end.type_inv in
+    let count = c.min-n.ensures ∙ ap (min (length c.args.into.now)) c.saturating_sub.ensures in
+    subst (λ found. IfSome found (λ archive. stretch.end ≤ archive.size → c.min-n.result ≡ min (length c.args.into.now) (stretch.end - stretch.first - c.args.at))) c.in-Some.ensures
+    (λ within. omega (arith, count, fits, within, c.min-end.ensures, c.saturating_add-place.ensures))
