@@ -1,5 +1,5 @@
 -- Acts one after another.
-use Rattle.std.proofs.Common.{◌≡◌, ℕ, List, [], ◌∷◌, ◌++◌, refl, sym, ap, ◌∙◌, append_assoc}
+use Rattle.std.proofs.Common.{◌≡◌, ℕ, List, [], ◌∷◌, ◌++◌, refl, sym, ap, ◌∙◌, append-nil, append_assoc}
 use Rattle.glacier_disk.specs.Network.{on_last}
 use Rattle.glacier_disk.proofs.Connections.{on_last-nil}
 use Rattle.glacier_replay.specs.Changes.{after_account_event, after_all}
@@ -57,6 +57,18 @@ bytes_of-keeps (h ∷ events) = bytes_of-keeps events
 pub events_in-keeps : (events : List AccountEvent) → events_in (keeps events) ≡ events
 events_in-keeps [] = refl
 events_in-keeps (h ∷ events) = ap (λ (l : List AccountEvent). h ∷ l) (events_in-keeps events)
+
+-- events, and then bytes
+pub bytes_of-kept : (events : List AccountEvent) (bytes : List ℕ) → bytes_of (keeps events ++ sends bytes) ≡ bytes
+bytes_of-kept events bytes =
+    bytes_of-append (keeps events) (sends bytes)
+    ∙ ap (λ (l : List ℕ). l ++ bytes_of (sends bytes)) (bytes_of-keeps events) ∙ bytes_of-sends bytes
+
+pub events_in-kept : (events : List AccountEvent) (bytes : List ℕ) → events_in (keeps events ++ sends bytes) ≡ events
+events_in-kept events bytes =
+    events_in-append (keeps events) (sends bytes)
+    ∙ ap (λ (l : List AccountEvent). l ++ events_in (sends bytes)) (events_in-keeps events)
+    ∙ ap (λ (l : List AccountEvent). events ++ l) (events_in-sends bytes) ∙ append-nil events
 
 pub sent_by-keeps : (events : List AccountEvent) (sent : List (List ℕ)) → sent_by (keeps events) sent ≡ sent
 sent_by-keeps [] sent = refl

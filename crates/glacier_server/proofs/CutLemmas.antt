@@ -11,7 +11,7 @@ use Rattle.glacier_machine.specs.declared.config.Config.{Config}
 use Rattle.glacier_server.specs.Acts.{Act, sends, keeps, bytes_of, events_in}
 use Rattle.glacier_server.specs.Machine.{reply, after, first_events, further}
 use Rattle.glacier_server.specs.Out.{told, run, out, first_acts, interim}
-use Rattle.glacier_server.proofs.ActLemmas.{bytes_of-append, bytes_of-sends, bytes_of-keeps, events_in-append, events_in-sends}
+use Rattle.glacier_server.proofs.ActLemmas.{bytes_of-append, bytes_of-keeps, bytes_of-kept, events_in-append, events_in-sends}
 
 -- the acts for some messages, and then those for the others
 out_split : (config : Config) (n : ℕ) (state : State) (before others : List Message) (readings more : List ℕ)
@@ -91,14 +91,11 @@ module _ (config : Config) (state : State) (before behind : List Message) (m : M
             ∙ sym (append_assoc (out config 0 state before readings) _ (text ++ rest)),
       )
 
-  first_bytes : bytes_of (first_acts config mid m r) ≡ interim config mid m r
-  first_bytes =
-      bytes_of-append (keeps (first_events config mid m r)) (sends (interim config mid m r))
-      ∙ ap (λ (l : List ℕ). l ++ bytes_of (sends (interim config mid m r))) (bytes_of-keeps (first_events config mid m r))
-      ∙ bytes_of-sends (interim config mid m r)
+  first_bytes : bytes_of (first_acts config mid m r) ≡ interim m
+  first_bytes = bytes_of-kept (first_events config mid m r) (interim m)
 
   bytes_are : length (bytes_of first) ≡ length (bytes_of (out config 0 state before readings))
-      + length (interim config mid m r)
+      + length (interim m)
   unfolding first
   bytes_are =
       ap length (bytes_of-append (out config 0 state before readings) (first_acts config mid m r ++ keeps
@@ -106,12 +103,11 @@ module _ (config : Config) (state : State) (before behind : List Message) (m : M
       ∙ ap (λ (l : List ℕ). bytes_of (out config 0 state before readings) ++ l)
       (bytes_of-append (first_acts config mid m r) (keeps (further config mid m r))
       ∙ ap (λ (l : List ℕ). l ++ bytes_of (keeps (further config mid m r))) first_bytes
-      ∙ ap (λ (l : List ℕ). interim config mid m r ++ l) (bytes_of-keeps (further config mid m r))
-      ∙ append-nil (interim config mid m r)))
-      ∙ length-append (bytes_of (out config 0 state before readings)) (interim config mid m r)
+      ∙ ap (λ (l : List ℕ). interim m ++ l) (bytes_of-keeps (further config mid m r))
+      ∙ append-nil (interim m)))
+      ∙ length-append (bytes_of (out config 0 state before readings)) (interim m)
 
-  pub events_first : length (bytes_of (out config 0 state before readings)) + length (interim config
-      (run config state before readings) m r) < length (bytes_of
+  pub events_first : length (bytes_of (out config 0 state before readings)) + length (interim m) < length (bytes_of
       (take k (out config 0 state (before ++ m ∷ behind) (readings ++ r ∷ more))))
       → (others : List AccountEvent) × (events_in (take k (out config 0 state (before ++ m ∷ behind)
       (readings ++ r ∷ more))) ≡ events_in (out config 0 state (before ++ m ∷ []) (readings ++ r ∷ [])) ++ others)

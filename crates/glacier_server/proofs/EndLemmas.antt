@@ -1,8 +1,7 @@
 -- The ends that messages make, and what is done for a bad head.
-use Rattle.std.proofs.Common.{◌≡◌, ℕ, ◌+◌, Bool, true, false, List, [], ◌∷◌, ◌++◌, take, Some, None, inl, refl, sym, ap, subst, ◌∙◌, append-nil}
+use Rattle.std.proofs.Common.{◌≡◌, ℕ, ◌+◌, Bool, true, false, List, [], ◌++◌, take, Some, None, inl, refl, sym, ap, subst, ◌∙◌, append-nil}
 use Rattle.std.specs.Prelude.{Option, if◌then◌else◌, ◌==◌}
 use Rattle.std.specs.Option.{is_some}
-use Rattle.glacier_disk.specs.Network.{Wait}
 use Rattle.glacier_http.specs.declared.bad_head.BadHead.{BadHead}
 use Rattle.glacier_http.specs.declared.limits.TheConstants.{MOST_MESSAGES}
 use Rattle.glacier_http.specs.Judged.{closes}
@@ -12,12 +11,10 @@ use Rattle.glacier_machine.specs.declared.config.Config.{Config}
 use Rattle.glacier_server.specs.Acts.{Act, sends}
 use Rattle.glacier_server.specs.declared.end.End.{End}
 use Rattle.glacier_server.specs.Exchange.{Standing, Exchange, exchange_on, Answers, AnswersPart, IsExchange, end_for_some}
-use Rattle.glacier_server.specs.Machine.{reply, after, happened}
+use Rattle.glacier_server.specs.Machine.{reply, after, further, happened}
 use Rattle.glacier_server.specs.Out.{told}
-use Rattle.glacier_server.specs.Session.{Session}
+use Rattle.glacier_server.specs.Session.{answering}
 use Rattle.glacier_server.specs.Turns.{whole}
-use Rattle.glacier_server.proofs.EventLemmas.{done_is}
-use Rattle.glacier_server.specs.Placed.{Placed}
 
 -- the ends that a message makes
 IsLast : InputEnd → Type 0
@@ -50,11 +47,6 @@ exchange_of config x (Some (cut k)) a left = absurd (is_last x.count a.message (
 exchange_of config x (Some refused) a left = a
 exchange_of config x (Some bound) a left = a
 
--- what is done for one message: these bytes are taken, a reading, and then these acts
-abbrev pub answering : Placed → Placed → List ℕ → List Act → ℕ → List Wait → Session
-answering before after taken acts r waits =
-    record { before = before; after = after; taken = taken; acts = acts; readings = r ∷ []; waits = waits }
-
 -- the end is shown exactly where there is one
 pub same_close : (o : Option InputEnd) → is_some (end_for_some o) ≡ is_some o
 same_close None = refl
@@ -74,10 +66,8 @@ module _ (config : Config) (from : Standing) (r : ℕ) (cause : BadHead) (rest :
   text = reply config from.placed.state (Bad cause) r true
 
   bad_told : told config from.count from.placed.state (Bad cause) r ≡ sends text
-  unfolding happened text
-  bad_told =
-      done_is config from.placed.state (Bad cause) r (is_some (last_end from.count (Bad cause)))
-      ∙ ap (λ (b : Bool). sends (reply config from.placed.state (Bad cause) r b)) (bad_closes from.count cause)
+  unfolding further happened text
+  bad_told = ap (λ (b : Bool). sends (reply config from.placed.state (Bad cause) r b)) (bad_closes from.count cause)
 
   begins_bad : Begins (from.unread ++ []) (Bad cause) rest
   begins_bad = subst (λ (l : List ℕ). BeginsBad l cause rest) (sym (append-nil from.unread)) stands

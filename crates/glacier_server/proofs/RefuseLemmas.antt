@@ -16,10 +16,10 @@ use Rattle.glacier_server.specs.Exchange.{Standing, BadStands, Exchanges, end_fo
 use Rattle.glacier_server.specs.Breaking.{BreaksOff}
 use Rattle.glacier_server.specs.Machine.{text_of_reply, reply, after, happened}
 use Rattle.glacier_server.specs.Served.{failing_of}
-use Rattle.glacier_server.specs.Session.{reading, acting}
+use Rattle.glacier_server.specs.Session.{answering, reading, acting}
 use Rattle.glacier_server.specs.Transfer.{Transfer, SentAll, SentPart, current}
 use Rattle.glacier_server.specs.Does.{nothing}
-use Rattle.glacier_server.proofs.EndLemmas.{answering, bad_answered, bad_part}
+use Rattle.glacier_server.proofs.EndLemmas.{bad_answered, bad_part}
 use Rattle.glacier_server.proofs.TransferLemmas.{acts_then, says, fails_as, breaks_off}
 use Rattle.glacier_replay.specs.Changes.{State}
 use Rattle.glacier_server.specs.Placed.{Placed}

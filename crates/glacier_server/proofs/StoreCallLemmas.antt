@@ -37,16 +37,17 @@ use Rattle.glacier_store.specs.Steps.{Advances, Grows, accounts_after, room_of, 
 use Rattle.glacier_store.specs.declared.fault.StoreFault.{StoreFault}
 use Rattle.glacier_store.specs.declared.fault.StoreFault.TheVariants as store_fault
 use Rattle.glacier_store.specs.declared.store.Store.{Store}
+use Rattle.glacier_store.proofs.KeptLemmas.{kept_held}
 
 -- a fault of the store is the server's fault of that name
-is_memory : (fault : StoreFault) (other : ServeFault) → IsFault fault other → other ≡ Memory → fault ≡ store_fault.Memory
+pub is_memory : (fault : StoreFault) (other : ServeFault) → IsFault fault other → other ≡ Memory → fault ≡ store_fault.Memory
 is_memory store_fault.Disk other is same = let never : Disk ≡ Memory = sym is ∙ same in absurd (cc)
 is_memory store_fault.Memory other is same = refl
 is_memory (store_fault.NotAJournal area at) other is same = absurd is
 is_memory (store_fault.NotEmpty area size) other is same = absurd is
 is_memory (store_fault.End n) other is same = let never : JournalEnd n ≡ Memory = sym is ∙ same in absurd (cc)
 
-is_end : (fault : StoreFault) (other : ServeFault) (length : ℕ) → IsFault fault other → other ≡ JournalEnd length
+pub is_end : (fault : StoreFault) (other : ServeFault) (length : ℕ) → IsFault fault other → other ≡ JournalEnd length
     → fault ≡ store_fault.End length
 is_end store_fault.Disk other length is same = let never : Disk ≡ JournalEnd length = sym is ∙ same in absurd (cc)
 is_end store_fault.Memory other length is same = let never : Memory ≡ JournalEnd length = sym is ∙ same in absurd (cc)
@@ -104,39 +105,39 @@ module _ {old new : Told} (state : State) (events : List AccountEvent) where
   pub changes_first : Changes old new state (after_all state events) → KeepsFirst old new state events
   changes_first changes = weaker old new _ _ changes (either state events)
 
-  stays_first : Stays old new state → KeepsFirst old new state events
+  pub stays_first : Stays old new state → KeepsFirst old new state events
   stays_first stays = weaker old new _ _ stays (λ i now. record { count = 0; stands = now })
 
 -- the journal was at its end before the only event, if there is one
-at_end : (store : Store) (account : List ℕ) (m : ℕ) (event : Option Event) (fault : StoreFault)
+at_end : (store : Store) (account : List ℕ) (m : ℕ) (event : Option Event) (body : List ℕ) (fault : StoreFault)
     (length : ℕ) → fault ≡ store_fault.End length
-    → Grows store.journal (room_of (events_of account m event)) (Err fault)
-    → EndsJournal store (events_of account m event) length
-at_end store account m event fault length is grows = go event (grows.end length (ap Err is)) (grows.some length (ap Err is))
+    → Grows store.journal (room_of (events_of account m event body)) (Err fault)
+    → EndsJournal store (events_of account m event body) length
+at_end store account m event body fault length is grows = go event (grows.end length (ap Err is)) (grows.some length (ap Err is))
   where
     go : (o : Option Event)
-        → (length ≡ store.journal.length) × (2 ^ 62 < length + room_of (events_of account m o))
-        → 0 < room_of (events_of account m o) → EndsJournal store (events_of account m o) length
+        → (length ≡ store.journal.length) × (2 ^ 62 < length + room_of (events_of account m o body))
+        → 0 < room_of (events_of account m o body) → EndsJournal store (events_of account m o body) length
     go None end some = absurd (omega (arith, some))
     go (Some happened) end some = record {
       kept = [];
-      left = events_of account m (Some happened);
+      left = events_of account m (Some happened) body;
       split = refl;
       grew = (0, refl, omega (arith, end.0));
-      full = no_room_for length (record { account = account; moment = m; event = happened; body = [] }) end.1;
+      full = no_room_for length (record { account = account; moment = m; event = happened; body = body }) end.1;
     }
 
 -- one call of the store, which keeps an event, if there is one
-module _ {T : Type 0} {old new : Told} (store : Store) (account : List ℕ) (m : ℕ) (event : Option Event) where
+module _ {T : Type 0} {old new : Told} (store : Store) (account : List ℕ) (m : ℕ) (event : Option Event) (body : List ℕ) where
   -- it is kept
-  pub action_done : (one : Store) (value : T) → Advances old new store (events_of account m event) (Ok one)
-      → one.accounts ≡ accounts_after store.accounts (events_of account m event)
-      → Grows store.journal (room_of (events_of account m event)) (Ok one)
-      → KeepsEvents {T = T} old new store [] (events_of account m event) (Ok (value, one))
+  pub action_done : (one : Store) (value : T) → Advances old new store (events_of account m event body) (Ok one)
+      → one.accounts ≡ accounts_after store.accounts (events_of account m event body)
+      → Grows store.journal (room_of (events_of account m event body)) (Ok one)
+      → KeepsEvents {T = T} old new store [] (events_of account m event body) (Ok (value, one))
   action_done one value advances is grows = record {
     accounts = is;
-    grew = grew_room store.journal.length one.journal.length (events_of account m event) grows.longer;
-    any_moment = λ state kept. changes_first state (events_of account m event) (advances.any_moment state kept);
+    grew = grew_room store.journal.length one.journal.length (events_of account m event body) grows.longer;
+    any_moment = λ state kept. changes_first state (events_of account m event body) (advances.any_moment state (kept_held kept));
     kept = λ state kept. advances.kept state kept;
     memory = λ state kept never. absurd (cc);
     end = λ length never. absurd (cc);
@@ -144,36 +145,36 @@ module _ {T : Type 0} {old new : Told} (store : Store) (account : List ℕ) (m :
 
   -- or a fault broke the server off
   pub action_broken : (fault : StoreFault) (other : ServeFault) → IsFault fault other
-      → Advances old new store (events_of account m event) (Err fault)
-      → Grows store.journal (room_of (events_of account m event)) (Err fault)
-      → KeepsEvents {T = T} old new store [] (events_of account m event) (Err other)
+      → Advances old new store (events_of account m event body) (Err fault)
+      → Grows store.journal (room_of (events_of account m event body)) (Err fault)
+      → KeepsEvents {T = T} old new store [] (events_of account m event body) (Err other)
   action_broken fault other is advances grows = record {
     accounts = tt;
     grew = tt;
-    any_moment = λ state kept. changes_first state (events_of account m event) (advances.any_moment state kept);
+    any_moment = λ state kept. changes_first state (events_of account m event body) (advances.any_moment state (kept_held kept));
     kept = λ state kept. tt;
     memory = λ state kept same. let at : other ≡ Memory = cc in
-        stays_first state [] (advances.memory state kept (ap Err (is_memory fault other is at)));
+        stays_first state [] (advances.memory state (kept_held kept) (ap Err (is_memory fault other is at)));
     end = λ length same. let at : other ≡ JournalEnd length = cc in
-        at_end store account m event fault length (is_end fault other length is at) grows;
+        at_end store account m event body fault length (is_end fault other length is at) grows;
   }
 
   -- it was one of time that passes, and what was to be done behind it wasn't
   pub pass_broken : (done : List AccountEvent) (fault : StoreFault) (other : ServeFault) → IsFault fault other
-      → Advances old new store (events_of account m event) (Err fault)
-      → Grows store.journal (room_of (events_of account m event)) (Err fault)
-      → KeepsEvents {T = T} old new store (events_of account m event) done (Err other)
+      → Advances old new store (events_of account m event body) (Err fault)
+      → Grows store.journal (room_of (events_of account m event body)) (Err fault)
+      → KeepsEvents {T = T} old new store (events_of account m event body) done (Err other)
   pass_broken done fault other is advances grows = record {
     accounts = tt;
     grew = tt;
-    any_moment = λ state kept. weaker old new _ _ (changes_first state (events_of account m event) (advances.any_moment state kept))
-        (sooner state (events_of account m event) done);
+    any_moment = λ state kept. weaker old new _ _ (changes_first state (events_of account m event body) (advances.any_moment state (kept_held kept)))
+        (sooner state (events_of account m event body) done);
     kept = λ state kept. tt;
     memory = λ state kept same. let at : other ≡ Memory = cc in
-        stays_first state (events_of account m event) (advances.memory state kept (ap Err (is_memory fault other is at)));
+        stays_first state (events_of account m event body) (advances.memory state (kept_held kept) (ap Err (is_memory fault other is at)));
     end = λ length same. let at : other ≡ JournalEnd length = cc in
-        ends_sooner store (events_of account m event) done length
-        (at_end store account m event fault length (is_end fault other length is at) grows);
+        ends_sooner store (events_of account m event body) done length
+        (at_end store account m event body fault length (is_end fault other length is at) grows);
   }
 
 -- the accounts after events one behind the other
@@ -227,7 +228,7 @@ pub passed_account : (before : Accounts) (k : List ℕ) (m : ℕ) → (account_i
 passed_account before k m time = at (pass_is_event m (account_in before k))
   where
     at : (b : Bool)
-        → account_in (accounts_after before (events_of k m (cond b (record { event = cond b (Some Pass) None; freed = freed m (account_in before k) }) no_change).event)) k
+        → account_in (accounts_after before (events_of k m (cond b (record { event = cond b (Some Pass) None; freed = freed m (account_in before k) }) no_change).event [])) k
         ≡ cond b (pass m (account_in before k)) (account_in before k)
     at true =
         ap (λ (fits : Bool). account_in (after_one before k (cond fits (Some (pass m (account_in before k), freed m (account_in before k))) None)) k)
@@ -244,6 +245,6 @@ pub asked_behind : (config : Config) (rules : Rules) (request : Request) (readin
     ≡ record (told_of (rules_of config request.account) accounts request reading) { passed = [] }
 asked_behind config rules request reading m accounts one is at same =
     ap (λ (r : Rules). asked_outcome r m request.asked one) is
-    ∙ ap (λ (s : AccountState). step_outcome request.account m [] (asked_step (rules_of config request.account) m request.asked s)) same
-    ∙ ap (λ (n : ℕ). step_outcome request.account n [] (asked_step (rules_of config request.account) n request.asked
+    ∙ ap (λ (s : AccountState). step_outcome request.account m [] (asked_step (rules_of config request.account) m request.asked [] s)) same
+    ∙ ap (λ (n : ℕ). step_outcome request.account n [] (asked_step (rules_of config request.account) n request.asked []
     (after_moment n (account_in accounts request.account)))) at

@@ -1,6 +1,7 @@
 -- Stretches of calls on the last connection, one after another.
 use Rattle.std.proofs.Common.{◌≡◌, ℕ, ◌+◌, ◌-◌, ◌≤◌, ◌<◌, List, [], ◌++◌, length, refl, sym, ap, subst, ◌∙◌, arith, append-nil, append_assoc, length-append}
 use Rattle.std.proofs.lemmas.List.Elements.{All-nil, All-append}
+use Rattle.std.specs.Prelude.{All}
 use Rattle.std.specs.FinMap as map
 use Rattle.glacier_base.specs.Outside.{one_more}
 use Rattle.glacier_disk.specs.declared.area.Area.TheVariants.{Lead}
@@ -124,11 +125,10 @@ unkept = record {
   state = no_state;
 }
 
-module _ {a b c : Told} {failing : Failing} (got more : List ℕ) (P Q : List ℕ
-    → Type 0) (first : Takes a b got P nothing) (second : Takes b c more Q failing) (leads_to : (l : List ℕ) → Q l
-    → P (got ++ l)) where
-  sooner : (w : Wait) → TakenAt (wait_of (current a.connections)) got P w
-      → TakenAt (wait_of (current a.connections)) (got ++ more) P w
+-- the waits of two stretches, one after the other
+module _ (start mid : Wait) (got more : List ℕ) (P Q : List ℕ → Type 0) (taken : mid.taken ≡ start.taken + length got)
+    (sent : mid.sent ≡ start.sent) (leads_to : (l : List ℕ) → Q l → P (got ++ l)) where
+  sooner : (w : Wait) → TakenAt start got P w → TakenAt start (got ++ more) P w
   sooner w x = record {
     till = x.till;
     later = x.later ++ more;
@@ -138,36 +138,33 @@ module _ {a b c : Told} {failing : Failing} (got more : List ℕ) (P Q : List �
     holds = x.holds;
   }
 
-  later : (w : Wait) → TakenAt (wait_of (current b.connections)) more Q w
-      → TakenAt (wait_of (current a.connections)) (got ++ more) P w
-  later w x =
-      let one = first.transfer unkept in record {
-        till = got ++ x.till;
-        later = x.later;
-        cut = ap (λ (l : List ℕ). got ++ l) x.cut ∙ sym (append_assoc got x.till x.later);
-        at = x.at
-            ∙ same_wait _ _ _ _ (omega (
-              arith,
-              ap length one.took,
-              length-append
-                  (current a.connections).taken got,
-              length-append got x.till,
-            ))
-            (ap length (one.sent_now ∙ append-nil _));
-        holds = leads_to x.till x.holds;
-      }
+  later : (w : Wait) → TakenAt mid more Q w → TakenAt start (got ++ more) P w
+  later w x = record {
+    till = got ++ x.till;
+    later = x.later;
+    cut = ap (λ (l : List ℕ). got ++ l) x.cut ∙ sym (append_assoc got x.till x.later);
+    at = x.at ∙ same_wait _ _ _ _ (omega (arith, taken, length-append got x.till)) sent;
+    holds = leads_to x.till x.holds;
+  }
 
+  pub waits_then : (first second : List Wait) → All (TakenAt start got P) first → All (TakenAt mid more Q) second
+      → All (TakenAt start (got ++ more) P) (first ++ second)
+  waits_then first second one two =
+      All-append (TakenAt start (got ++ more) P) first second
+      (all_more (TakenAt start got P) (TakenAt start (got ++ more) P) first sooner one)
+      (all_more (TakenAt mid more Q) (TakenAt start (got ++ more) P) second later two)
+
+module _ {a b c : Told} {failing : Failing} (got more : List ℕ) (P Q : List ℕ
+    → Type 0) (first : Takes a b got P nothing) (second : Takes b c more Q failing) (leads_to : (l : List ℕ) → Q l
+    → P (got ++ l)) where
   pub takes_then : Takes a c (got ++ more) P failing
-  takes_then = record {
+  takes_then = let at = moved (taking unkept got first.waits) (first.transfer unkept) in record {
     waits = first.waits ++ second.waits;
     transfer = λ placed. then (taking placed got first.waits) (taking placed more second.waits) refl
         (first.transfer placed) (second.transfer placed);
-    each =
-        All-append (TakenAt (wait_of (current a.connections)) (got ++ more) P) first.waits second.waits
-        (all_more (TakenAt (wait_of (current a.connections)) got P) (TakenAt (wait_of (current a.connections))
-        (got ++ more) P) first.waits sooner first.each)
-        (all_more (TakenAt (wait_of (current b.connections)) more Q) (TakenAt (wait_of (current a.connections))
-        (got ++ more) P) second.waits later second.each);
+    each = waits_then (wait_of (current a.connections)) (wait_of (current b.connections)) got more P Q
+        (ap (λ (w : Wait). w.taken) at) (ap (λ (w : Wait). w.sent) at ∙ omega arith) leads_to first.waits second.waits
+        first.each second.each;
   }
 
 -- bytes behind those that were unread

@@ -16,7 +16,6 @@ use Rattle.glacier_server.specs.Session.{Session, HeldWaiting, IsFront}
 use Rattle.glacier_server.specs.Transfer.{Transfer, current}
 use Rattle.glacier_server.specs.Turns.{Turn, turn_events, turn_interim, turn_passed}
 use Rattle.glacier_server.specs.Placed.{Placed}
-use Rattle.glacier_replay.specs.Changes.{State}
 
 -- what broke a connection off, by the count of the disk's faults: no accept did
 abbrev pub HasBroken : ServeFault → Told → Told → Type 0
@@ -31,17 +30,17 @@ ShowsDisk (Ok x) old new = new.disk_faults ≡ old.disk_faults
 ShowsDisk (Err fault) old new = HasBroken fault old new
 
 -- no byte of the reply to a turn is among these acts: at most those of its interim line are
-abbrev pub NoReplyTo : Config → State → Turn → ℕ → List Act → Type 0
-NoReplyTo config state turn reading acts = IsFront (bytes_of acts) (turn_interim config state turn reading)
+abbrev pub NoReplyTo : Turn → List Act → Type 0
+NoReplyTo turn acts = IsFront (bytes_of acts) (turn_interim turn)
 
 -- what was done for a turn at a reading, from this store, before the server broke off: no byte of its reply was sent;
 -- for want of memory no event was kept but of time that passes, and where the journal was at its end, there was no room
 -- for the next of its events
 abbrev pub BrokenFor : Config → Placed → Turn → ℕ → List Act → ServeFault → Type 0
-BrokenFor config placed turn reading acts Disk = NoReplyTo config placed.state turn reading acts
-BrokenFor config placed turn reading acts Memory = NoReplyTo config placed.state turn reading acts
+BrokenFor config placed turn reading acts Disk = NoReplyTo turn acts
+BrokenFor config placed turn reading acts Memory = NoReplyTo turn acts
     × IsFront (events_in acts) (turn_passed config placed.state turn reading)
-BrokenFor config placed turn reading acts (JournalEnd length) = NoReplyTo config placed.state turn reading acts
+BrokenFor config placed turn reading acts (JournalEnd length) = NoReplyTo turn acts
     × EndsJournal placed.store (turn_events config placed.state turn reading) length
 BrokenFor config placed turn reading acts Accept = ⊥
 

@@ -1,5 +1,5 @@
 -- What a server does for the connections that come, one after another.
-use Rattle.std.specs.Prelude.{◌≡◌, ◌⊎◌, true, false, ℕ, ◌+◌, ◌≤◌, List, [], ◌∷◌, ◌++◌, length, Result, Ok, Err}
+use Rattle.std.specs.Prelude.{◌≡◌, ◌⊎◌, true, false, ℕ, ◌+◌, ◌<◌, ◌≤◌, List, [], ◌∷◌, ◌++◌, length, Result, Ok, Err}
 use Rattle.glacier_base.specs.Outside.{one_more, HasRisen}
 use Rattle.glacier_disk.specs.Network.{Connection, Wait, accepted}
 use Rattle.glacier_disk.specs.Told.{Told}
@@ -15,6 +15,7 @@ use Rattle.glacier_server.specs.Transfer.{Fails}
 use Rattle.glacier_server.specs.Does.{Does, Grew, nothing, breaking}
 use Rattle.glacier_replay.specs.Changes.{State}
 use Rattle.glacier_server.specs.Placed.{Placed, placed_as}
+use Rattle.glacier_store.specs.Kept.{Kept}
 use Rattle.glacier_store.specs.declared.store.Store.{Store}
 
 -- the session is all that was done on the connection
@@ -105,11 +106,21 @@ pub record Breaks (config : Config) (old new : Told) (placed : Placed) (most : �
 abbrev pub NeverBegan : ServeFault → Told → Told → Type 0
 NeverBegan fault old new = (fault ≡ Memory) × (new.connections ≡ old.connections) × (new.readings ≡ old.readings)
 
--- how the server stopped, from a store on with each state of its accounts
+-- how the server stopped, from a store on with each state as which the disk keeps it
 abbrev pub Broken : Config → Told → Told → Store → ℕ → ServeFault → Type 0
 Broken config old new store most fault =
-    ((state : State) → store.accounts ≡ state.accounts → Breaks config old new (placed_as store state) most fault)
+    ((state : State) → Kept old store state → Breaks config old new (placed_as store state) most fault)
     ⊎ NeverBegan fault old new
+
+-- whatever the disk holds: so many came of the connections that were to come, fewer than the most only where none is left
+pub record Came (old new : Told) (most count : ℕ) : Type 0 where
+  pub left : old.listener.to_come ≡ count + new.listener.to_come
+  pub fewer : count < most → new.listener.to_come ≡ 0
+
+-- the same of what is answered: before a fault no more than the most came
+abbrev pub CameBy : {T : Type 0} → Result T ServeFault → (T → ℕ) → ℕ → Told → Told → Type 0
+CameBy (Ok x) count most old new = Came old new most (count x)
+CameBy (Err fault) count most old new = old.listener.to_come ≤ most + new.listener.to_come
 
 -- a connection was just accepted, and nothing else was done
 pub record JustAccepted (old new : Told) (placed : Placed) : Type 0 where

@@ -29,6 +29,11 @@ abbrev pub acting : Placed → Placed → List Act → Session
 acting before after acts =
     record { before = before; after = after; taken = []; acts = acts; readings = []; waits = [] }
 
+-- what is done for one message: these bytes are taken, a reading, and then these acts
+abbrev pub answering : Placed → Placed → List ℕ → List Act → ℕ → List Wait → Session
+answering before after taken acts r waits =
+    record { before = before; after = after; taken = taken; acts = acts; readings = r ∷ []; waits = waits }
+
 -- the list begins with these
 abbrev pub IsFront : {A : Type 0} → List A → List A → Type 0
 IsFront {A} front all = (rest : List A) × (all ≡ front ++ rest)

@@ -2,10 +2,11 @@
 use Rattle.std.specs.Prelude.{ℕ, List, [], ◌∷◌, Option, Some, None}
 use Rattle.httparse.specs.Grammar.{RequestHead}
 use Rattle.glacier_http.specs.Messages.{Message, Begins, BeginsNone}
+use Rattle.glacier_http.specs.Interim.{interim_of}
 use Rattle.glacier_http.specs.Opening.{BeginsHead}
 use Rattle.glacier_machine.specs.declared.config.Config.{Config}
 use Rattle.glacier_server.specs.Acts.{Act}
-use Rattle.glacier_server.specs.Machine.{begun_events, happened, interim_of, passed}
+use Rattle.glacier_server.specs.Machine.{begun_events, happened, passed}
 use Rattle.glacier_server.specs.Out.{begin_acts, interim, told}
 use Rattle.glacier_replay.specs.Changes.{State}
 use Rattle.glacier_vault.specs.Accounts.{AccountEvent}
@@ -26,9 +27,9 @@ turn_acts config n state (whole m) reading = told config n state m reading
 turn_acts config n state (begun h) reading = begin_acts config state h reading
 
 -- its interim line
-abbrev pub turn_interim : Config → State → Turn → ℕ → List ℕ
-turn_interim config state (whole m) reading = interim config state m reading
-turn_interim config state (begun h) reading = interim_of config state h reading
+abbrev pub turn_interim : Turn → List ℕ
+turn_interim (whole m) = interim m
+turn_interim (begun h) = interim_of h
 
 -- its events, and those of them that are of time that passes
 abbrev pub turn_events : Config → State → Turn → ℕ → List AccountEvent

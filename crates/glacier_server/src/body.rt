@@ -58,7 +58,7 @@ fn drop_rest<S: Station>(station: &mut S, piece: &mut [u8], missing: u64) -> Res
 /// Takes the rest of a body, whose first bytes stand at the front of the buffer, behind them up to
 /// `end`, until it is whole or the input ends. It answers how many bytes of it stand there then.
 #[tactic(auto, using(crate::proofs::KeepLemmas::kept))]
-fn keep_rest<S: Station>(
+pub(crate) fn keep_rest<S: Station>(
     station: &mut S,
     buffer: &mut [u8],
     at: usize,
@@ -76,6 +76,7 @@ fn keep_rest<S: Station>(
     ensures within { IfOk result (λ filled. (at ≤ filled) × (filled ≤ end)) }
     ensures end { IsTrue S.tells →
         IfOk result (λ filled. filled < end → NoneComing (S.told station.new)) }
+    ensures reads { (S.told station.new).reads ≡ (S.told station.old).reads }
     ensures keeps { Keeps (S.told station.old) (S.told station.new) (receiving_if result) }
 {
     let mut filled = at;
@@ -94,7 +95,7 @@ fn keep_rest<S: Station>(
 }
 
 /// Copies bytes to the front of a buffer.
-fn put_front(buffer: &mut [u8], bytes: &[u8])
+pub(crate) fn put_front(buffer: &mut [u8], bytes: &[u8])
     requires { length bytes.now ≤ length buffer.old }
     ensures { take (length bytes.now) buffer.new ≡ bytes.now }
 {

@@ -15,8 +15,9 @@ use glacier_disk::Station;
 use glacier_machine::Config;
 use glacier_store::Store;
 use std::alloc::Global;
+use std::thread::Threads;
 
-impl Service<'_> {
+impl<R: Threads + Sync> Service<'_, R> {
     /// Answers the messages of the open connection, one after another, until it ends.
     #[tactic(auto, using(crate::proofs::KeepLemmas::kept))]
     pub fn serve_open<S: Station>(
@@ -61,7 +62,8 @@ impl Service<'_> {
 /// After an error there is no store. `Disk` says that a call of the disk failed, `JournalEnd` that
 /// the journal has no room for the events of a message, and `Memory` is want of memory; no byte of
 /// the reply to the last message was sent then.
-pub fn serve_connection<S: Station>(
+pub fn serve_connection<R: Threads + Sync, S: Station>(
+    rt: &R,
     alloc: Global,
     station: &mut S,
     store: Store,
@@ -69,10 +71,10 @@ pub fn serve_connection<S: Station>(
 ) -> Result<(End, Store), ServeFault>
     requires connected { (S.told station.old).connected ≡ true }
     requires open { (S.told station.old).opened ≡ true }
-    ensures served { IsTrue S.tells → (state : State) → store.accounts ≡ state.accounts →
+    ensures served { IsTrue S.tells → (state : State) → Kept (S.told station.old) store state →
         IfOk result (λ r. (after : State) × ServedLast config.now (S.told station.old)
         (S.told station.new) (placed_as store state) (placed_as r.1 after) r.0) }
-    ensures broken { IsTrue S.tells → (state : State) → store.accounts ≡ state.accounts →
+    ensures broken { IsTrue S.tells → (state : State) → Kept (S.told station.old) store state →
         IfErr result (λ fault. PartLast config.now (S.told station.old) (S.told station.new)
         (placed_as store state) fault) }
     ensures headline { IsTrue S.tells → (state : State) → Kept (S.told station.old) store state →
@@ -81,7 +83,7 @@ pub fn serve_connection<S: Station>(
         (λ fault. HasBroken fault (S.told station.old) (S.told station.new)) }
     ensures keeps { Keeps (S.told station.old) (S.told station.new) (failing_to result) }
 {
-    let service = Service { alloc, config };
+    let service = Service { rt, alloc, config };
     let mut buffers = match Buffers::new(alloc) {
         Ok(buffers) => buffers,
         Err(_) => return Err(ServeFault::Memory),

@@ -3,6 +3,7 @@ ghost use Rattle.std.specs.Prelude.{◌≡◌, ◌+◌, [], ◌==◌, ◌<◌, �
 ghost use Rattle.glacier_http.specs.Messages.{bad as Bad, last_end, end_of_rest};
 ghost use Rattle.glacier_http.specs.Step.{IsStep};
 ghost use Rattle.glacier_http.specs.declared.head_spans.HeadStep.TheVariants as step;
+ghost use Rattle.glacier_server.specs.Begun.{HasBegun};
 ghost use Rattle.glacier_server.specs.Exchange.{Exchanges, Standing, BadStands, standing, failing_at, failing_in, failing_on, end_for, end_for_some, end_of_good};
 ghost use Rattle.glacier_server.specs.Breaking.{BreaksOff};
 ghost use Rattle.glacier_server.specs.Served.{failing_of};
@@ -19,12 +20,13 @@ use crate::end::{End, ServeFault};
 use crate::extent::extent_of;
 use crate::next_head::next_head;
 use crate::read_buffer::ReadBuffer;
-use crate::reply_sender::{MOST_AT_ONCE, Stamp, send_reply};
+use crate::reply_sender::{MOST_AT_ONCE, Stamp, send_interim, send_reply};
 use crate::service::Service;
-use glacier_base::Memory;
+use glacier_base::{Memory, Moment};
 use glacier_disk::Station;
 use glacier_http::{BadHead, HeadSpans, HeadStep, MOST_MESSAGES};
 use glacier_store::Store;
+use std::thread::Threads;
 
 /// The end that a bad head makes.
 fn bad_end(count: u64) -> End
@@ -70,7 +72,7 @@ fn ended(unread: &ReadBuffer) -> End
     }
 }
 
-impl Service<'_> {
+impl<R: Threads + Sync> Service<'_, R> {
     /// Answers a bad head, which ends the connection.
     #[tactic(auto, using(crate::proofs::KeepLemmas::kept))]
     fn refuse<S: Station>(
@@ -104,36 +106,40 @@ impl Service<'_> {
         }
     }
 
-    /// Answers the message whose good head stands at the front of the unread bytes.
+    /// Answers the message at the front of the unread bytes, for whose good head what is due was done.
     #[tactic(auto, using(crate::proofs::KeepLemmas::kept))]
-    fn answer<S: Station>(
+    fn answer_begun<S: Station>(
         &self,
         station: &mut S,
         buffers: &mut Buffers,
         store: Store,
         spans: &HeadSpans,
         count: u64,
+        reading: Moment,
     ) -> Result<(Option<End>, Store), ServeFault>
         requires connected { (S.told station.old).connected ≡ true }
         requires open { (S.told station.old).opened ≡ true }
         requires good { IsStep buffers.old.unread buffers.old.head (step.Head spans.now) }
         requires small { spans.now.content_length ≤ 2 ^ 33 }
         requires below { count < MOST_MESSAGES }
-        ensures exchange { IsTrue S.tells → (state : State) → store.accounts ≡ state.accounts →
+        ensures exchange { IsTrue S.tells → (old : S) (state : State) → store.accounts ≡ state.accounts →
+            HasBegun self.now.config.now (standing count buffers.old.unread (placed_as store state))
+            (placed_as store state) reading (S.told old) (S.told station.old) →
             IfOk result (λ r. (after : State) × Exchanges self.now.config.now
             (standing count buffers.old.unread (placed_as store state))
             (standing (count + 1) buffers.new.unread (placed_as r.1 after))
-            (S.told station.old) (S.told station.new) r.0) }
-        ensures broken { IsTrue S.tells → (state : State) → store.accounts ≡ state.accounts →
+            (S.told old) (S.told station.new) r.0) }
+        ensures broken { IsTrue S.tells → (old : S) (state : State) → store.accounts ≡ state.accounts →
+            HasBegun self.now.config.now (standing count buffers.old.unread (placed_as store state))
+            (placed_as store state) reading (S.told old) (S.told station.old) →
             IfErr result (λ fault. BreaksOff self.now.config.now
-            (standing count buffers.old.unread (placed_as store state)) (S.told station.old)
+            (standing count buffers.old.unread (placed_as store state)) (S.told old)
             (S.told station.new) fault) }
         ensures fault { IfErr result
             (λ fault. HasBroken fault (S.told station.old) (S.told station.new)) }
         ensures below { IfOk result (λ r. r.0 ≡ None → count + 1 < MOST_MESSAGES) }
         ensures keeps { Keeps (S.told station.old) (S.told station.new) (failing_in result) }
     {
-        let reading = station.now();
         let length = buffers.unread.count();
         let extent = extent_of(spans, length);
         let here = &buffers.unread.bytes()[spans.head_length as usize..extent.used];
@@ -165,6 +171,42 @@ impl Service<'_> {
                 buffers.unread.skip(extent.used);
                 Ok((end, store))
             }
+            Err(_) => Ok((Some(End::SendFault), store)),
+        }
+    }
+
+    /// Answers the message whose good head stands at the front of the unread bytes.
+    #[tactic(auto, using(crate::proofs::KeepLemmas::kept))]
+    fn answer<S: Station>(
+        &self,
+        station: &mut S,
+        buffers: &mut Buffers,
+        store: Store,
+        spans: &HeadSpans,
+        count: u64,
+    ) -> Result<(Option<End>, Store), ServeFault>
+        requires connected { (S.told station.old).connected ≡ true }
+        requires open { (S.told station.old).opened ≡ true }
+        requires good { IsStep buffers.old.unread buffers.old.head (step.Head spans.now) }
+        requires small { spans.now.content_length ≤ 2 ^ 33 }
+        requires below { count < MOST_MESSAGES }
+        ensures exchange { IsTrue S.tells → (state : State) → store.accounts ≡ state.accounts →
+            IfOk result (λ r. (after : State) × Exchanges self.now.config.now
+            (standing count buffers.old.unread (placed_as store state))
+            (standing (count + 1) buffers.new.unread (placed_as r.1 after))
+            (S.told station.old) (S.told station.new) r.0) }
+        ensures broken { IsTrue S.tells → (state : State) → store.accounts ≡ state.accounts →
+            IfErr result (λ fault. BreaksOff self.now.config.now
+            (standing count buffers.old.unread (placed_as store state)) (S.told station.old)
+            (S.told station.new) fault) }
+        ensures fault { IfErr result
+            (λ fault. HasBroken fault (S.told station.old) (S.told station.new)) }
+        ensures below { IfOk result (λ r. r.0 ≡ None → count + 1 < MOST_MESSAGES) }
+        ensures keeps { Keeps (S.told station.old) (S.told station.new) (failing_in result) }
+    {
+        let reading = station.now();
+        match send_interim(station, spans) {
+            Ok(()) => self.answer_begun(station, buffers, store, spans, count, reading),
             Err(_) => Ok((Some(End::SendFault), store)),
         }
     }

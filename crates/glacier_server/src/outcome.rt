@@ -1,14 +1,15 @@
 // The machine's outcome of each message.
-ghost use Rattle.std.specs.Prelude.{◌≡◌, ◌≤◌, ℕ, List, length, IsTrue, true, IfOk, IfErr};
+ghost use Rattle.std.specs.Prelude.{◌≡◌, ◌≤◌, [], ℕ, List, length, IsTrue, true, IfOk};
 ghost use Rattle.glacier_http.specs.Spans.{IsGood};
 ghost use Rattle.glacier_machine.specs.Outcomes.{refusal_outcome, request_outcome, rules_of, one};
 ghost use Rattle.glacier_replies.specs.Messages.{HasAsciiText};
 ghost use Rattle.glacier_replies.specs.Refusals.{head_refusal};
-ghost use Rattle.glacier_machine.specs.SignedRequests.{IsBodyKept, RefusesInAscii};
+ghost use Rattle.glacier_machine.specs.Actions.{HasOrder, IsPlain};
+ghost use Rattle.glacier_machine.specs.SignedRequests.{IsBodyKept};
 ghost use Rattle.glacier_server.specs.Events.{KeepsOutcome, IsCallFault, IsFault};
 ghost use Rattle.glacier_vault.specs.Accounts.{account_in};
 ghost use Rattle.glacier_server.specs.Front.{AtFront};
-ghost use Rattle.glacier_server.specs.Machine.{HasShortNames, IsPrintableIn, asked_outcome, told_of, told_head};
+ghost use Rattle.glacier_server.specs.Machine.{HasShortNames, IsAsked, IsPrintableIn, IsRead, asked_outcome, told_of, told_head};
 ghost use Rattle.glacier_server.specs.Breaking.{ShowsDisk};
 
 use crate::buffers::Buffers;
@@ -22,6 +23,7 @@ use glacier_machine::{Action, Request, bad_head_refusal, read_request, refusal_r
 use glacier_store::{Store, StoreFault};
 use glacier_vault::{Refusal, Rules};
 use std::alloc::Global;
+use std::thread::Threads;
 
 /// The reply to what is refused.
 #[tactic(auto, using(crate::proofs::ReplyLemmas::refused_printable))]
@@ -42,12 +44,15 @@ fn names_are_short(rules: &Rules, action: &Action)
         Action::CreateVault { vault } => {
             let _name = vault.bytes();
         }
-        Action::DescribeVault { .. } | Action::DeleteVault { .. } => {}
+        Action::BeginJob(ask) => {
+            let _name = ask.vault.bytes();
+        }
+        _ => {}
     }
 }
 
 /// What a fault of a store's call is to the server.
-fn fault_of(fault: StoreFault) -> ServeFault
+pub(crate) fn fault_of(fault: StoreFault) -> ServeFault
     requires { IsCallFault fault }
     ensures { IsFault fault result }
 {
@@ -60,7 +65,7 @@ fn fault_of(fault: StoreFault) -> ServeFault
     }
 }
 
-impl Service<'_> {
+impl<R: Threads + Sync> Service<'_, R> {
     /// Does an action on an account at the moment `m`, and keeps what it changes.
     fn reply_to_action<D: Disk>(
         &self,
@@ -72,6 +77,7 @@ impl Service<'_> {
     ) -> Result<(Reply, Store), ServeFault>
         requires open { (D.told disk.old).opened ≡ true }
         requires time { (account_in store.accounts rules.now.account).last ≤ m }
+        requires asked { IsPlain action.now × HasOrder action.now }
         ensures reply { IfOk result (λ r. r.0
             ≡ (asked_outcome rules.now m (Ok action.now) store.accounts).reply) }
         ensures printable { IfOk result (λ r. IsPrintableIn MOST_HEAD_TEXT r.0) }
@@ -98,7 +104,7 @@ impl Service<'_> {
     ) -> Result<(Reply, Store), ServeFault>
         requires open { (D.told disk.old).opened ≡ true }
         requires time { (account_in store.accounts rules.now.account).last ≤ m }
-        requires ascii { IfErr asked.now HasAsciiText }
+        requires asked { IsAsked asked.now }
         ensures reply { IfOk result (λ r. r.0
             ≡ (asked_outcome rules.now m asked.now store.accounts).reply) }
         ensures printable { IfOk result (λ r. IsPrintableIn MOST_HEAD_TEXT r.0) }
@@ -126,7 +132,7 @@ impl Service<'_> {
         reading: Moment,
     ) -> Result<(Reply, Store), ServeFault>
         requires open { (D.told disk.old).opened ≡ true }
-        requires ascii { IfErr request.now.asked HasAsciiText }
+        requires asked { IsAsked request.now.asked }
         ensures reply { IfOk result (λ r. r.0 ≡ (told_of
             (rules_of self.now.config.now request.now.account) store.accounts request.now
             reading).reply) }
@@ -154,12 +160,12 @@ impl Service<'_> {
         reading: Moment,
     ) -> Result<(Reply, Store), ServeFault>
         requires open { (D.told disk.old).opened ≡ true }
-        requires ascii { RefusesInAscii request.now }
+        requires read { IsRead request.now }
         ensures reply { IfOk result (λ r. r.0 ≡ (request_outcome self.now.config.now store.accounts
-            request.now reading).reply) }
+            request.now [] reading).reply) }
         ensures printable { IfOk result (λ r. IsPrintableIn MOST_HEAD_TEXT r.0) }
         ensures keeps { IsTrue D.tells → KeepsOutcome (D.told disk.old) (D.told disk.new) store
-            (request_outcome self.now.config.now store.accounts request.now reading) result }
+            (request_outcome self.now.config.now store.accounts request.now [] reading) result }
         ensures fault { ShowsDisk result (D.told disk.old) (D.told disk.new) }
         ensures alone { D.by_disk disk.old disk.new }
     {

@@ -1,11 +1,12 @@
 // Sending a reply.
 ghost use Rattle.std.specs.Prelude.{◌≡◌, ◌++◌, ◌≤◌, [], IsTrue, length, take, true, IfSome, OnOk, OnErr, None, if◌then◌else◌};
+ghost use Rattle.glacier_http.specs.Interim.{interim_text};
 ghost use Rattle.glacier_server.specs.Machine.{IsPrintableIn, text_of_reply};
 ghost use Rattle.glacier_server.specs.Transfer.{SentAll, SentPart, Keeps, sending_if};
 
 use glacier_base::{Failed, Moment};
 use glacier_disk::Station;
-use glacier_http::{Reply, write_head};
+use glacier_http::{HeadSpans, Reply, interim, write_head};
 
 /// The head of a reply has at most so many bytes.
 pub const MOST_HEAD_TEXT: usize = 1024;
@@ -62,6 +63,25 @@ fn print(reply: &Reply, stamp: &Stamp, into: &mut [u8]) -> Printed
             end: head,
             whole: false,
         },
+    }
+}
+
+/// Sends the interim line that asks for the body of this head, where there is one. It takes no memory.
+pub fn send_interim<S: Station>(station: &mut S, spans: &HeadSpans) -> Result<(), Failed>
+    requires { (S.told station.old).connected ≡ true }
+    ensures sent { IsTrue S.tells → OnOk result (SentAll (S.told station.old) (S.told station.new)
+        (interim_text spans.now.expect spans.now.content_length)) }
+    ensures failed { IsTrue S.tells → OnErr result (SentPart (S.told station.old) (S.told
+        station.new) (interim_text spans.now.expect spans.now.content_length)) }
+    ensures keeps { Keeps (S.told station.old) (S.told station.new) (sending_if result) }
+{
+    let line = interim(spans.expect, spans.content_length);
+    if line.is_empty() {
+        return Ok(());
+    }
+    match station.send(line) {
+        Ok(()) => Ok(()),
+        Err(fault) => Err(fault),
     }
 }
 

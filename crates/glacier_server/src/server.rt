@@ -2,7 +2,7 @@
 ghost use Rattle.std.specs.Prelude.{◌≡◌, ◌+◌, ◌<◌, ◌≤◌, IsTrue, true, false, IfOk, IfErr, if◌then◌else◌};
 ghost use Rattle.glacier_server.specs.Headline.{Headline};
 ghost use Rattle.glacier_server.specs.Breaking.{ShowsDisk};
-ghost use Rattle.glacier_server.specs.Serving.{Serves, Breaks, Broken, JustAccepted, ServesOn, ShowsFault};
+ghost use Rattle.glacier_server.specs.Serving.{Serves, Breaks, Broken, CameBy, JustAccepted, ServesOn, ShowsFault};
 ghost use Rattle.glacier_server.specs.Placed.{placed_as};
 ghost use Rattle.glacier_replay.specs.Changes.{State};
 ghost use Rattle.glacier_store.specs.Kept.{Kept};
@@ -14,8 +14,9 @@ use glacier_disk::Station;
 use glacier_machine::Config;
 use glacier_store::Store;
 use std::alloc::Global;
+use std::thread::Threads;
 
-impl Service<'_> {
+impl<R: Threads + Sync> Service<'_, R> {
     /// Serves the connection that was just accepted, and closes it.
     fn serve_accepted<S: Station>(
         &self,
@@ -38,8 +39,7 @@ impl Service<'_> {
         ensures fault { ShowsDisk result (S.told station.old) (S.told station.new) }
         ensures kept { (S.told station.old).listener.listening ≡ true →
             ServesOn (S.told station.old) (S.told station.new) }
-        ensures accepts { (S.told station.new).listener.faults
-            ≡ (S.told station.old).listener.faults }
+        ensures listener { (S.told station.new).listener ≡ (S.told station.old).listener }
     {
         match self.serve_open(station, buffers, store) {
             Ok((_, after)) => {
@@ -70,8 +70,8 @@ impl Service<'_> {
         ensures broken { IsTrue S.tells → (state : State) → store.accounts ≡ state.accounts →
             IfErr result (λ fault. Breaks self.now.config.now
             (S.told station.old) (S.told station.new) (placed_as store state) 1 fault) }
-        ensures none { IsTrue S.tells →
-            IfOk result (λ r. r.0 ≡ false → (S.told station.new).listener.to_come ≡ 0) }
+        ensures came { IsTrue S.tells → CameBy result (λ r. if r.0 then 1 else 0) 1
+            (S.told station.old) (S.told station.new) }
         ensures kept { ServesOn (S.told station.old) (S.told station.new) }
         ensures fault { ShowsFault result (S.told station.old) (S.told station.new) }
     {
@@ -94,7 +94,8 @@ impl Service<'_> {
 /// the journal has no room for the events of a message, `Memory` is want of memory, and `Accept`
 /// says that an accept failed.
 #[tactic(auto, using(crate::proofs::KeepLemmas::on_then))]
-pub fn serve<S: Station>(
+pub fn serve<R: Threads + Sync, S: Station>(
+    rt: &R,
     alloc: Global,
     station: &mut S,
     store: Store,
@@ -104,7 +105,7 @@ pub fn serve<S: Station>(
     requires listening { (S.told station.old).listener.listening ≡ true }
     requires free { (S.told station.old).connected ≡ false }
     requires open { (S.told station.old).opened ≡ true }
-    ensures served { IsTrue S.tells → (state : State) → store.accounts ≡ state.accounts →
+    ensures served { IsTrue S.tells → (state : State) → Kept (S.told station.old) store state →
         IfOk result (λ r. (after : State) × Serves config.now (S.told station.old)
         (S.told station.new) (placed_as store state) (placed_as r.1 after) r.0) }
     ensures broken { IsTrue S.tells → IfErr result (λ fault. Broken config.now
@@ -112,12 +113,12 @@ pub fn serve<S: Station>(
     ensures headline { IsTrue S.tells → (state : State) → Kept (S.told station.old) store state →
         Headline config.now (S.told station.old) (S.told station.new) (placed_as store state) }
     ensures most { IfOk result (λ r. r.0 ≤ connections) }
-    ensures fewer { IsTrue S.tells →
-        IfOk result (λ r. r.0 < connections → (S.told station.new).listener.to_come ≡ 0) }
+    ensures came { IsTrue S.tells → CameBy result (λ r. r.0) connections
+        (S.told station.old) (S.told station.new) }
     ensures kept { ServesOn (S.told station.old) (S.told station.new) }
     ensures fault { ShowsFault result (S.told station.old) (S.told station.new) }
 {
-    let service = Service { alloc, config };
+    let service = Service { rt, alloc, config };
     let mut buffers = match Buffers::new(alloc) {
         Ok(buffers) => buffers,
         Err(_) => return Err(ServeFault::Memory),

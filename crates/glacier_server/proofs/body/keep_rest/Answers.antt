@@ -1,5 +1,5 @@
 use borrow.Rule.Slice.PartMut.{put_mid}
-use Rattle.std.proofs.Common.{rules, ◌≡◌, ◌≤◌, ◌-◌, ◌+◌, ◌∙◌, ℕ, length, take, arith, ap, Ok}
+use Rattle.std.proofs.Common.{rules, ◌≡◌, ◌≤◌, ◌-◌, ◌+◌, ◌∙◌, ℕ, length, take, refl, arith, ap, Ok}
 use Rattle.std.proofs.lemmas.List.{length-take-le}
 use Rattle.glacier_server.proofs.KeepLemmas.{keeps_self, keeps_then}
 use Rattle.glacier_server.proofs.ListLemmas.{filled_more}
@@ -13,6 +13,7 @@ loop-filled-init g c = record {
   within = c.requires.order;
   size = search rules;
   takes = λ t. behind_none _ _ _;
+  reads = refl;
   keeps = keeps_self _ c.requires.connected;
 }
 
@@ -33,6 +34,9 @@ returns-then-count-eq0-clause-end g c t some =
     let size : length c.receive.new.into ≡ c.args.end - c.loop-filled.filled = search rules in
     none_coming ((c.in-Ok.ensures.receives t).end (search (rules, arith)) (ap (λ (n : ℕ). Ok n) c.if-count-eq0.true))
 
+pub returns-then-count-eq0-clause-reads : goal.returns-then-count-eq0-clause-reads
+returns-then-count-eq0-clause-reads g c = c.in-Ok.ensures.call.disk.rests.same ∙ c.loop-filled.invariant.reads
+
 pub loop-filled-preserved : goal.loop-filled-preserved
 loop-filled-preserved g c =
     let size : length c.receive.new.into ≡ c.args.end - c.loop-filled.filled = search rules in
@@ -46,6 +50,7 @@ loop-filled-preserved g c =
           (filled_more c.loop-filled.filled c.in-Ok.count (c.args.end - c.loop-filled.filled) c.loop-filled.buffer c.receive.new.into
           (omega (arith, c.loop-filled.auto.buffer, c.requires.within, c.loop-filled-test.true)) size few)
           (takes_once (Ok c.in-Ok.count) _ c.receive.new.into c.in-Ok.ensures.call (c.in-Ok.ensures.receives t)));
+      reads = c.in-Ok.ensures.call.disk.rests.same ∙ c.loop-filled.invariant.reads;
       keeps = keeps_then c.loop-filled.invariant.keeps (search rules);
     }
 
@@ -64,3 +69,6 @@ returns-in-Err-clause-failed g c t =
           (omega (arith, c.loop-filled.auto.buffer, c.requires.within, c.loop-filled-test.true)) size (omega arith))
           (takes_once _ _ c.receive.new.into c.in-Err.ensures.call (c.in-Err.ensures.receives t))),
     )
+
+pub returns-in-Err-clause-reads : goal.returns-in-Err-clause-reads
+returns-in-Err-clause-reads g c = c.in-Err.ensures.call.disk.rests.same ∙ c.loop-filled.invariant.reads

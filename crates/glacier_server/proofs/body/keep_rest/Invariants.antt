@@ -10,6 +10,7 @@ invariant-loop-filled g l = record {
   size : length l.buffer ≡ length l.fn.buffer;
   takes : IsTrue g.S.Disk.tells → TakesBehind (g.S.Disk.told l.fn.station) (g.S.Disk.told l.station)
       (take l.fn.at l.fn.buffer) (take l.filled l.buffer) (λ front. length front < l.fn.end) nothing;
+  reads : (g.S.Disk.told l.station).reads ≡ (g.S.Disk.told l.fn.station).reads;
   keeps : Keeps (g.S.Disk.told l.fn.station) (g.S.Disk.told l.station) nothing;
 }
 

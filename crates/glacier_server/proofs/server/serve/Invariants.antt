@@ -1,4 +1,4 @@
-use Rattle.std.proofs.Common.{◌≡◌, ◌≤◌, ◌-◌, IsTrue}
+use Rattle.std.proofs.Common.{◌≡◌, ◌+◌, ◌≤◌, ◌-◌, IsTrue}
 use Rattle.glacier_replay.specs.Changes.{State}
 use Rattle.glacier_server.specs.Placed.{placed_as}
 use Rattle.glacier_server.specs.Serving.{Serves, ServesOn}
@@ -10,6 +10,8 @@ invariant-connections g l = record {
   served : IsTrue g.S.Disk.tells → (state : State) → l.initial.store.accounts ≡ state.accounts
       → (now : State) × Serves l.fn.config (g.S.Disk.told l.fn.station) (g.S.Disk.told l.station)
       (placed_as l.initial.store state) (placed_as l.store now) l.count;
+  came : IsTrue g.S.Disk.tells
+      → (g.S.Disk.told l.fn.station).listener.to_come ≡ l.count + (g.S.Disk.told l.station).listener.to_come;
   kept : ServesOn (g.S.Disk.told l.fn.station) (g.S.Disk.told l.station);
   faults : ((g.S.Disk.told l.station).listener.faults ≡ (g.S.Disk.told l.fn.station).listener.faults)
       × ((g.S.Disk.told l.station).disk_faults ≡ (g.S.Disk.told l.fn.station).disk_faults);

@@ -1,124 +1,34 @@
-use Rattle.std.proofs.Common.{rules, ◌≡◌, ◌≤◌, ◌-◌, ◌∙◌, ◌++◌, sym, ap, subst, refl, ℕ, List, take, drop, arith, Ok, Err}
-use Rattle.std.specs.Option.{is_some}
-use Rattle.glacier_machine.specs.SignedRequests.{IsBodyKept}
-use Rattle.glacier_server.specs.Exchange.{standing, end_of_good}
+use Rattle.std.proofs.Common.{refl}
+use Rattle.glacier_server.specs.Exchange.{standing}
 use Rattle.glacier_server.specs.Placed.{placed_as}
-use Rattle.glacier_server.proofs.AnswerLemmas.{kept_body}
-use Rattle.glacier_server.proofs.ExtentLemmas.{extends_by, head_fits, good_of}
-use Rattle.glacier_server.proofs.KeepLemmas.{keeps_then, keeps_now, keeps_as, keeps_disk, keeps_broken, broken_then}
-use Rattle.glacier_server.proofs.ListLemmas.{written}
-use Rattle.glacier_server.proofs.MessageLemmas.{answers_by, keeps_by, body_failed, body_cut, reply_unmade, reply_sent, reply_unsent}
+use Rattle.glacier_server.proofs.BegunLemmas.{has_begun, interim_unsent, none_kept}
 use Rattle.glacier_server.proofs.StepLemmas.{reads}
 use Rattle.glacier_server.proofs.service.Service.answer.Goals as goal
 
-pub extent_of-extent-requires : goal.extent_of-extent-requires
-extent_of-extent-requires g c =
-    subst (λ (k : ℕ). c.args.spans.now.head_length ≤ k) (sym c.count-length.ensures.same)
-    (head_fits c.args.buffers.now.unread c.args.buffers.now.head c.args.spans.now c.requires.good)
+pub returns-in-Ok-clause-exchange : goal.returns-in-Ok-clause-exchange
+returns-in-Ok-clause-exchange g c t state same =
+    let config = c.args.self.now.config.now in
+    let from = standing c.args.count c.args.buffers.now.unread (placed_as c.args.store state) in
+    let read = reads (placed_as c.args.store state) c.now-reading.result c.now-reading.ensures.call (c.now-reading.ensures.reading t) in
+    c.answer_begun.ensures.exchange t c.args.station.now state same
+    (has_begun config from c.args.spans.now c.requires.good (placed_as c.args.store state) (none_kept config from read)
+    (c.in-Ok.ensures.sent t))
 
-pub reply_to_message-replied-requires-clause-good : goal.reply_to_message-replied-requires-clause-good
-reply_to_message-replied-requires-clause-good g c = good_of c.args.buffers.now.unread c.args.buffers.now.head c.args.spans.now c.requires.good
+pub returns-in-Ok-clause-broken : goal.returns-in-Ok-clause-broken
+returns-in-Ok-clause-broken g c t state same =
+    let config = c.args.self.now.config.now in
+    let from = standing c.args.count c.args.buffers.now.unread (placed_as c.args.store state) in
+    let read = reads (placed_as c.args.store state) c.now-reading.result c.now-reading.ensures.call (c.now-reading.ensures.reading t) in
+    c.answer_begun.ensures.broken t c.args.station.now state same
+    (has_begun config from c.args.spans.now c.requires.good (placed_as c.args.store state) (none_kept config from read)
+    (c.in-Ok.ensures.sent t))
 
 pub returns-in-Err-clause-exchange : goal.returns-in-Err-clause-exchange
 returns-in-Err-clause-exchange g c t state same =
-    let failed = c.in-Err.ensures.failed t in (
+    let config = c.args.self.now.config.now in
+    let from = standing c.args.count c.args.buffers.now.unread (placed_as c.args.store state) in
+    let read = reads (placed_as c.args.store state) c.now-reading.result c.now-reading.ensures.call (c.now-reading.ensures.reading t) in (
       state,
-      body_failed c.args.self.now.config.now (standing c.args.count c.args.buffers.now.unread (placed_as c.args.store state)) c.args.buffers.now.head c.args.spans.now _ _ c.requires.good
-          (extends_by _ _ _ _ _ c.count-length.ensures.same c.extent_of-extent.ensures.used c.extent_of-extent.ensures.left)
-          (λ placed. reads placed c.now-reading.result c.now-reading.ensures.call
-          (c.now-reading.ensures.reading t)) failed.2 failed.1 _ refl,
+      interim_unsent config from c.args.spans.now c.requires.good (placed_as c.args.store state) (none_kept config from read)
+          (c.in-Err.ensures.failed t) _ refl,
     )
-
-pub returns-then-left-gt0-clause-exchange : goal.returns-then-left-gt0-clause-exchange
-returns-then-left-gt0-clause-exchange g c t state same = (
-  state,
-  body_cut c.args.self.now.config.now (standing c.args.count c.args.buffers.now.unread (placed_as c.args.store state)) c.args.buffers.now.head c.args.spans.now _ _ c.requires.good
-      (extends_by _ _ _ _ _ c.count-length.ensures.same c.extent_of-extent.ensures.used c.extent_of-extent.ensures.left)
-      (λ placed. reads placed c.now-reading.result c.now-reading.ensures.call (c.now-reading.ensures.reading t))
-      (c.in-Ok.ensures.takes t).rest
-      c.if-left-gt0.true (c.in-Ok.ensures.end t c.if-left-gt0.true) _ c.count-length.ensures.same _ refl,
-)
-
-pub returns-in-Err-replied-clause-broken : goal.returns-in-Err-replied-clause-broken
-returns-in-Err-replied-clause-broken g c t state same =
-    let kept : c.front_of-kept.result.now ≡ take c.args.spans.now.content_length c.take_body.new.buffer = c.front_of-kept.ensures ∙ ap (λ (l : List ℕ). take c.args.spans.now.content_length l) (c.deref.ensures.value ∙ written _ _ _ (search rules)) in
-    let law = g.met.S.Disk.lawful t c.reply_to_message-replied.new.disk in
-    let alone = g.met.S.Disk.by_disk_keeps c.take_body.new.station c.reply_to_message-replied.new.disk c.reply_to_message-replied.ensures.alone in
-    reply_unmade c.args.self.now.config.now (standing c.args.count c.args.buffers.now.unread (placed_as c.args.store state)) c.args.buffers.now.head c.args.spans.now _ _ c.requires.good
-    (extends_by _ _ _ _ _ c.count-length.ensures.same c.extent_of-extent.ensures.used c.extent_of-extent.ensures.left)
-    (λ placed. reads placed c.now-reading.result c.now-reading.ensures.call (c.now-reading.ensures.reading t))
-    (c.in-Ok.ensures.takes t).rest (omega (arith, c.if-left-gt0.false))
-    (end_of_good c.args.count c.args.spans.now.close) c.front_of-kept.result.now
-    (kept_body c.args.self.now.config.now (standing c.args.count c.args.buffers.now.unread (placed_as c.args.store state)) c.args.buffers.now.head c.args.spans.now _ _ c.now-reading.result c.requires.good
-    (extends_by _ _ _ _ _ c.count-length.ensures.same c.extent_of-extent.ensures.used c.extent_of-extent.ensures.left)
-    _ c.bytes.result.now c.bytes.ensures.same _ (subst (λ (l : List ℕ). IsBodyKept l (take (c.extent_of-extent.result.used - c.args.spans.now.head_length)
-    (drop c.args.spans.now.head_length c.bytes.result.now) ++ (c.in-Ok.ensures.takes t).rest.got)) (sym kept) ((c.in-Ok.ensures.takes t).keeps (omega (arith, c.if-left-gt0.false)))))
-    c.in-Err-replied.fault refl law alone c.in-Err-replied.ensures.fault (keeps_by c.args.self.now.config.now c.args.spans.now c.args.store (Err c.in-Err-replied.fault) same (c.in-Err-replied.ensures.keeps t))
-
-pub returns-in-Ok-send_reply-clause-exchange : goal.returns-in-Ok-send_reply-clause-exchange
-returns-in-Ok-send_reply-clause-exchange g c t state same =
-    let kept : c.front_of-kept.result.now ≡ take c.args.spans.now.content_length c.take_body.new.buffer = c.front_of-kept.ensures ∙ ap (λ (l : List ℕ). take c.args.spans.now.content_length l) (c.deref.ensures.value ∙ written _ _ _ (search rules)) in
-    let flag : c.is_some.result ≡ is_some c.good_end-end.result = search rules in
-    let law = g.met.S.Disk.lawful t c.reply_to_message-replied.new.disk in
-    let alone = g.met.S.Disk.by_disk_keeps c.take_body.new.station c.reply_to_message-replied.new.disk c.reply_to_message-replied.ensures.alone in (
-      _,
-      reply_sent c.args.self.now.config.now (standing c.args.count c.args.buffers.now.unread (placed_as c.args.store state)) c.args.buffers.now.head c.args.spans.now _ _ c.requires.good
-          (extends_by _ _ _ _ _ c.count-length.ensures.same c.extent_of-extent.ensures.used c.extent_of-extent.ensures.left)
-          (λ placed. reads placed c.now-reading.result c.now-reading.ensures.call (c.now-reading.ensures.reading t))
-          (c.in-Ok.ensures.takes t).rest (omega (arith, c.if-left-gt0.false))
-          c.good_end-end.result c.front_of-kept.result.now
-          (kept_body c.args.self.now.config.now (standing c.args.count c.args.buffers.now.unread (placed_as c.args.store state)) c.args.buffers.now.head c.args.spans.now _ _ c.now-reading.result c.requires.good
-          (extends_by _ _ _ _ _ c.count-length.ensures.same c.extent_of-extent.ensures.used c.extent_of-extent.ensures.left)
-          _ c.bytes.result.now c.bytes.ensures.same _ (subst (λ (l : List ℕ). IsBodyKept l (take (c.extent_of-extent.result.used - c.args.spans.now.head_length)
-          (drop c.args.spans.now.head_length c.bytes.result.now) ++ (c.in-Ok.ensures.takes t).rest.got)) (sym kept) ((c.in-Ok.ensures.takes t).keeps (omega (arith, c.if-left-gt0.false)))))
-          c.good_end-end.ensures.end c.good_end-end.ensures.of_none c.is_some.result flag law alone
-          c.in-Ok-replied.replied (answers_by c.args.self.now.config.now c.args.spans.now c.in-Ok-replied.replied.0 same c.in-Ok-replied.ensures.reply)
-          (keeps_by c.args.self.now.config.now c.args.spans.now c.args.store (Ok c.in-Ok-replied.replied) same (c.in-Ok-replied.ensures.keeps t))
-          (c.in-Ok-send_reply.ensures.sent t) _ refl c.skip.ensures,
-    )
-
-pub returns-clause-exchange : goal.returns-clause-exchange
-returns-clause-exchange g c t state same =
-    let kept : c.front_of-kept.result.now ≡ take c.args.spans.now.content_length c.take_body.new.buffer = c.front_of-kept.ensures ∙ ap (λ (l : List ℕ). take c.args.spans.now.content_length l) (c.deref.ensures.value ∙ written _ _ _ (search rules)) in
-    let flag : c.is_some.result ≡ is_some c.good_end-end.result = search rules in
-    let law = g.met.S.Disk.lawful t c.reply_to_message-replied.new.disk in
-    let alone = g.met.S.Disk.by_disk_keeps c.take_body.new.station c.reply_to_message-replied.new.disk c.reply_to_message-replied.ensures.alone in (
-      _,
-      reply_unsent c.args.self.now.config.now (standing c.args.count c.args.buffers.now.unread (placed_as c.args.store state)) c.args.buffers.now.head c.args.spans.now _ _ c.requires.good
-          (extends_by _ _ _ _ _ c.count-length.ensures.same c.extent_of-extent.ensures.used c.extent_of-extent.ensures.left)
-          (λ placed. reads placed c.now-reading.result c.now-reading.ensures.call (c.now-reading.ensures.reading t))
-          (c.in-Ok.ensures.takes t).rest (omega (arith, c.if-left-gt0.false))
-          c.good_end-end.result c.front_of-kept.result.now
-          (kept_body c.args.self.now.config.now (standing c.args.count c.args.buffers.now.unread (placed_as c.args.store state)) c.args.buffers.now.head c.args.spans.now _ _ c.now-reading.result c.requires.good
-          (extends_by _ _ _ _ _ c.count-length.ensures.same c.extent_of-extent.ensures.used c.extent_of-extent.ensures.left)
-          _ c.bytes.result.now c.bytes.ensures.same _ (subst (λ (l : List ℕ). IsBodyKept l (take (c.extent_of-extent.result.used - c.args.spans.now.head_length)
-          (drop c.args.spans.now.head_length c.bytes.result.now) ++ (c.in-Ok.ensures.takes t).rest.got)) (sym kept) ((c.in-Ok.ensures.takes t).keeps (omega (arith, c.if-left-gt0.false)))))
-          c.good_end-end.ensures.end c.good_end-end.ensures.of_none c.is_some.result flag law alone
-          c.in-Ok-replied.replied (answers_by c.args.self.now.config.now c.args.spans.now c.in-Ok-replied.replied.0 same c.in-Ok-replied.ensures.reply)
-          (keeps_by c.args.self.now.config.now c.args.spans.now c.args.store (Ok c.in-Ok-replied.replied) same (c.in-Ok-replied.ensures.keeps t))
-          (c.in-Err-send_reply.ensures.failed t) _ refl,
-    )
-
-pub returns-in-Err-replied-clause-keeps : goal.returns-in-Err-replied-clause-keeps
-returns-in-Err-replied-clause-keeps g c =
-    let alone = g.met.S.Disk.by_disk_keeps c.take_body.new.station c.reply_to_message-replied.new.disk c.reply_to_message-replied.ensures.alone in
-    let first = keeps_then (keeps_now c.now-reading.ensures.call c.requires.connected) c.in-Ok.ensures.keeps in
-    keeps_then first (keeps_broken alone c.in-Ok.ensures.keeps.connected)
-
-pub returns-in-Err-replied-clause-fault : goal.returns-in-Err-replied-clause-fault
-returns-in-Err-replied-clause-fault g c =
-    broken_then c.in-Err-replied.fault _ _ _ (keeps_then (keeps_now c.now-reading.ensures.call c.requires.connected) c.in-Ok.ensures.keeps)
-    c.in-Err-replied.ensures.fault
-
-pub returns-in-Ok-send_reply-clause-keeps : goal.returns-in-Ok-send_reply-clause-keeps
-returns-in-Ok-send_reply-clause-keeps g c =
-    let alone = g.met.S.Disk.by_disk_keeps c.take_body.new.station c.reply_to_message-replied.new.disk c.reply_to_message-replied.ensures.alone in
-    let first = keeps_then (keeps_now c.now-reading.ensures.call c.requires.connected) c.in-Ok.ensures.keeps in
-    keeps_as (sym c.good_end-end.ensures.of_none)
-    (keeps_then (keeps_then first (keeps_disk alone c.in-Ok.ensures.keeps.connected c.in-Ok-replied.ensures.fault)) c.in-Ok-send_reply.ensures.keeps)
-
-pub returns-clause-keeps : goal.returns-clause-keeps
-returns-clause-keeps g c =
-    let alone = g.met.S.Disk.by_disk_keeps c.take_body.new.station c.reply_to_message-replied.new.disk c.reply_to_message-replied.ensures.alone in
-    let first = keeps_then (keeps_now c.now-reading.ensures.call c.requires.connected) c.in-Ok.ensures.keeps in
-    keeps_then (keeps_then first (keeps_disk alone c.in-Ok.ensures.keeps.connected c.in-Ok-replied.ensures.fault)) c.in-Err-send_reply.ensures.keeps

@@ -8,7 +8,7 @@ use Rattle.glacier_server.proofs.KeepLemmas.{keeps_then, keeps_break}
 use Rattle.glacier_server.proofs.service.Service.one_message.Goals as goal
 
 pub answer-requires-clause-small : goal.answer-requires-clause-small
-answer-requires-clause-small g c =
+answer-requires-clause-small g c κs lives =
     content_small c.next_head.new.unread c.next_head.new.room c.in-Ok-Head.spans
     (subst (λ (f : HeadStep). IsStep c.next_head.new.unread c.next_head.new.room f) c.in-Ok-Head.field-0-is c.in-Ok-Head.ensures.found)
 

@@ -1,4 +1,4 @@
-use Rattle.std.proofs.Common.{Ok, sym, subst}
+use Rattle.std.proofs.Common.{[], Ok, sym, subst}
 use Rattle.std.specs.Prelude.{Result}
 use Rattle.glacier_machine.specs.Outcomes.{request_outcome}
 use Rattle.glacier_machine.specs.declared.action.Request.{Request}
@@ -10,7 +10,7 @@ use Rattle.glacier_server.proofs.service.Service.reply_to_read.Goals as goal
 pub returns-in-Ok-reply_to_refused-clause-keeps : goal.returns-in-Ok-reply_to_refused-clause-keeps
 returns-in-Ok-reply_to_refused-clause-keeps g c t =
     subst (λ (q : Result Request Refusal). KeepsOutcome (g.D.Disk.told c.args.disk.now) (g.D.Disk.told c.args.disk.now) c.args.store
-    (request_outcome c.args.self.now.config.now c.args.store.accounts q c.args.reading)
+    (request_outcome c.args.self.now.config.now c.args.store.accounts q [] c.args.reading)
     (Ok (c.in-Ok-reply_to_refused.reply, c.args.store))) (sym c.in-Err.is)
     (no_events (g.met.D.Disk.lawful t c.args.disk.now) c.args.store c.in-Ok-reply_to_refused.reply)
 

@@ -3,6 +3,7 @@ use Rattle.std.proofs.lemmas.Result.{IfOk-weaker}
 use Rattle.glacier_machine.specs.Moments.{moment_change}
 use Rattle.glacier_machine.specs.Outcomes.{Outcome, moment_of, rules_of}
 use Rattle.glacier_store.specs.Steps.{time_events}
+use Rattle.glacier_store.proofs.KeptLemmas.{kept_held}
 use Rattle.glacier_vault.specs.Accounts.{Accounts, account_in, AccountEvent}
 use Rattle.glacier_vault.specs.declared.rules.Rules.{Rules}
 use Rattle.glacier_http.specs.declared.reply.Reply.{Reply}
@@ -13,7 +14,7 @@ use Rattle.glacier_server.proofs.StoreCallLemmas.{asked_behind, changes_first, p
 use Rattle.glacier_server.proofs.service.Service.reply_to_request.Goals as goal
 
 pub reply_to_asked-requires-clause-time : goal.reply_to_asked-requires-clause-time
-reply_to_asked-requires-clause-time g c =
+reply_to_asked-requires-clause-time g c κs lives =
     subst (λ (r : Rules). (account_in c.in-Ok.store.accounts r.account).last ≤ c.later-m.result) (sym c.rules-rules.ensures)
     c.in-Ok.ensures.passed.last
 
@@ -45,7 +46,7 @@ returns-in-Ok-clause-keeps g c t =
     subst (λ (n : ℕ). KeepsEvents (g.D.Disk.told c.args.disk.now) (g.D.Disk.told c.reply_to_asked.new.disk) c.args.store
     (time_events account n accounts) done c.reply_to_asked.result) m_is
     (passed_then c.args.store c.in-Ok.store events done c.in-Ok.ensures.passed.after_is
-    (λ state kept. changes_first state events (advances.any_moment state kept))
+    (λ state kept. changes_first state events (advances.any_moment state (kept_held kept)))
     advances.kept
     (grew_room c.args.store.journal.length c.in-Ok.store.journal.length events c.in-Ok.ensures.grows.longer)
     c.reply_to_asked.result
@@ -60,5 +61,5 @@ returns-in-Err-clause-keeps g c t =
     let done = (told_of (rules_of c.args.self.now.config.now account) accounts c.args.request.now c.args.reading).done in
     subst (λ (n : ℕ). KeepsEvents {T = Reply} (g.D.Disk.told c.args.disk.now) (g.D.Disk.told c.pass.new.disk) c.args.store
     (time_events account n accounts) done (Err c.fault_of.result)) m_is
-    (pass_broken c.args.store account c.later-m.result (moment_change c.later-m.result (account_in accounts account)).event done
+    (pass_broken c.args.store account c.later-m.result (moment_change c.later-m.result (account_in accounts account)).event [] done
     c.in-Err.fault c.fault_of.result c.fault_of.ensures (c.in-Err.ensures.advances t) c.in-Err.ensures.grows)

@@ -1,5 +1,7 @@
 use Rattle.std.proofs.Common.{◌∙◌, ap, sym, arith, Ok, Bool}
+use Rattle.glacier_disk.specs.Told.{Listener}
 use Rattle.glacier_server.specs.Placed.{placed_as}
+use Rattle.glacier_server.proofs.CameLemmas.{came_one, came_none}
 use Rattle.glacier_server.proofs.ServingLemmas.{serves_none, breaks_accept, just_accepted}
 use Rattle.glacier_server.proofs.service.Service.serve_next.Goals as goal
 
@@ -26,3 +28,23 @@ returns-in-Ok-false-clause-served g c t state same =
 
 pub returns-in-Err-clause-broken : goal.returns-in-Err-clause-broken
 returns-in-Err-clause-broken g c t state same = breaks_accept c.accept.ensures.call (c.in-Err.ensures.accepts t).failed.1
+
+pub returns-in-Ok-clause-came : goal.returns-in-Ok-clause-came
+returns-in-Ok-clause-came g c t =
+    let ok = ap (λ (b : Bool). Ok b) c.in-Ok-true.field-0-test in
+    came_one _ ((c.in-Ok-true.ensures.accepts t).fewer ok) (ap (λ (l : Listener). l.to_come) c.serve_accepted.ensures.listener)
+
+pub returns-in-Err-serve_accepted-clause-came : goal.returns-in-Err-serve_accepted-clause-came
+returns-in-Err-serve_accepted-clause-came g c t =
+    let ok = ap (λ (b : Bool). Ok b) c.in-Ok-true.field-0-test in
+    let fewer = (c.in-Ok-true.ensures.accepts t).fewer ok in
+    let same = ap (λ (l : Listener). l.to_come) c.serve_accepted.ensures.listener in
+    omega (arith, fewer, same)
+
+pub returns-in-Ok-false-clause-came : goal.returns-in-Ok-false-clause-came
+returns-in-Ok-false-clause-came g c t =
+    let end = (c.in-Ok-false.ensures.accepts t).end (ap (λ (b : Bool). Ok b) c.in-Ok-false.field-0-test) in
+    came_none end.0 end.1
+
+pub returns-in-Err-clause-came : goal.returns-in-Err-clause-came
+returns-in-Err-clause-came g c t = let same = (c.in-Err.ensures.accepts t).failed.0 in omega (arith, same)
