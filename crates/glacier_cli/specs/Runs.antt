@@ -66,7 +66,8 @@ abbrev pub HasNoOrder : Option Form → StationUse → Type 0
 HasNoOrder (Some (serve words)) station = IsInOrder words.is_new station.before.reads → ⊥
 HasNoOrder form station = ⊥
 
--- the journal was at its end for the events of a message, with the ring that the key file spells
+-- the journal was at its end for the events of a message, from each state on that the folder stood for, with the ring that
+-- the key file spells
 abbrev pub HasNoRoom : Option Form → FileUse → StationUse → Type 0
 HasNoRoom (Some (serve words)) files station =
     (ring : List Entry) × HasKeys files words.keys ring

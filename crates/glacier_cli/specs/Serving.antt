@@ -1,12 +1,12 @@
 -- What a run did for the connections that came to its address, and what a crash at a moment of it leaves.
-use Rattle.std.specs.Prelude.{◌≡◌, ◌⊎◌, ◌<◌, ◌≤◌, ◌+◌, false, ℕ, None, List, [], length}
+use Rattle.std.specs.Prelude.{◌≡◌, ◌⊎◌, ◌≤◌, ◌+◌, false, ℕ, None, List, [], length}
 use Rattle.glacier_disk.specs.Image.{Image, Only, NoMore}
 use Rattle.glacier_disk.specs.Network.{Connection, sent_on}
 use Rattle.glacier_machine.specs.declared.config.Config.{Config}
 use Rattle.glacier_sigv4.specs.declared.ring.Entry.{Entry}
 use Rattle.glacier_server.specs.declared.end.ServeFault.{ServeFault}
 use Rattle.glacier_server.specs.Acts.{StopsAfter}
-use Rattle.glacier_server.specs.Serving.{Comes, ServedAll, ServedTill, BreaksLast, acts_of}
+use Rattle.glacier_server.specs.Serving.{Came, Comes, ServedAll, ServedTill, BreaksLast, acts_of}
 use Rattle.glacier_server.specs.Session.{Session}
 use Rattle.glacier_replay.specs.Changes.{State}
 use Rattle.glacier_server.specs.Placed.{IsKept, Placed, placed_as}
@@ -23,27 +23,26 @@ pub record Holds (station : StationUse) (ring : List Entry) (words : ServeWords)
   pub within : over_quota ring store.accounts ≡ None
 
 -- so many connections were served for the accounts of a ring, from a store with a state on, and the folder keeps it as it
--- is after them if it stood for that state
+-- is after them
 pub record ServesFrom (station : StationUse) (ring : List Entry) (words : ServeWords) (from : Placed) (count : ℕ) : Type 0 where
   pub after : Placed
-  pub kept : StartsFrom words.is_new station.before.reads from.state → IsKept station.after after
+  pub kept : IsKept station.after after
   pub came : List Connection
   pub sessions : List Session
   pub comes : Comes station.before station.after came sessions
   pub number : length came ≡ count
   pub each : ServedAll (config_of ring words) came sessions from after
 
--- so many connections came to this address, and were served from the store of this folder on, with each state of its
--- accounts; fewer than the most only where none is left to come
+-- so many connections came to this address, fewer than the most only where none is left to come; they were served from the
+-- store of this folder on, with each state that the folder stood for
 pub record ServesAt (station : StationUse) (ring : List Entry) (words : ServeWords) (count : ℕ) : Type 0 where
   pub opens : OpensAll station words
   pub holds : Holds station ring words
-  pub serves : (state : State) → holds.store.accounts ≡ state.accounts
+  pub came : Came station.before station.after words.connections count
+  pub serves : (state : State) → StartsFrom words.is_new station.before.reads state
       → ServesFrom station ring words (placed_as holds.store state) count
-  pub left : station.before.listener.to_come ≡ count + station.after.listener.to_come
-  pub fewer : count < words.connections → station.after.listener.to_come ≡ 0
 
--- those that came before a fault, no more than the most, were served from a store with a state on
+-- those that came before a fault were served from a store with a state on
 pub record TillFrom (station : StationUse) (ring : List Entry) (words : ServeWords) (fault : ServeFault) (from : Placed)
     : Type 0 where
   pub after : Placed
@@ -53,11 +52,13 @@ pub record TillFrom (station : StationUse) (ring : List Entry) (words : ServeWor
   pub few : length came ≤ words.connections
   pub till : ServedTill (config_of ring words) fault came sessions from after
 
--- the same, from the store of this folder on, with each state of its accounts
+-- no more than the most came before a fault; they were served from the store of this folder on, with each state that the
+-- folder stood for
 pub record ServesTill (station : StationUse) (ring : List Entry) (words : ServeWords) (fault : ServeFault)
     : Type 0 where
   pub holds : Holds station ring words
-  pub serves : (state : State) → holds.store.accounts ≡ state.accounts
+  pub few : station.before.listener.to_come ≤ words.connections + station.after.listener.to_come
+  pub serves : (state : State) → StartsFrom words.is_new station.before.reads state
       → TillFrom station ring words fault (placed_as holds.store state)
 
 -- the run broke off: no connection came, or some were served till then

@@ -41,7 +41,7 @@ fn ending_of<R: Threads + Sync, F: Files, S: Station>(
 {
     match &Command::of(words) {
         Some(Command::Hash(name)) => hash(rt, alloc, *name, files),
-        Some(Command::Serve(serving)) => serve_keys(alloc, serving, files, station),
+        Some(Command::Serve(serving)) => serve_keys(rt, alloc, serving, files, station),
         None => Ending::Usage,
     }
 }

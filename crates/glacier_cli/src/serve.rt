@@ -16,6 +16,7 @@ use glacier_server::{Config, ServeFault, serve};
 use glacier_sigv4::KeyRing;
 use glacier_store::first_over;
 use std::alloc::Global;
+use std::thread::Threads;
 
 /// How many seconds retrieval jobs take, by their tier: as many as are named, or else what Amazon's
 /// tiers take at most.
@@ -53,7 +54,8 @@ fn server_ending(fault: ServeFault) -> Ending
 
 /// Makes or opens the store in the folder, listens at the address, and serves the accounts of the
 /// ring on the connections that come, one after another.
-fn serve_folder<S: Station>(
+fn serve_folder<R: Threads + Sync, S: Station>(
+    rt: &R,
     alloc: Global,
     ring: KeyRing,
     serving: &Serving,
@@ -79,14 +81,15 @@ fn serve_folder<S: Station>(
         return Ending::ListenerFault;
     }
     let config = config_of(ring, serving);
-    match serve(alloc, station, store, &config, serving.connections) {
+    match serve(rt, alloc, station, store, &config, serving.connections) {
         Ok((count, _)) => Ending::Served(count),
         Err(fault) => server_ending(fault),
     }
 }
 
 /// Reads the key file, and then serves its accounts from the folder, at the address.
-pub(crate) fn serve_keys<F: Files, S: Station>(
+pub(crate) fn serve_keys<R: Threads + Sync, F: Files, S: Station>(
+    rt: &R,
     alloc: Global,
     serving: &Serving,
     files: &mut F,
@@ -104,7 +107,7 @@ pub(crate) fn serve_keys<F: Files, S: Station>(
     ensures contents { KeepsContents (file_use F.tells (F.told files.old) (F.told files.new)) }
 {
     match read_keys(alloc, serving.keys, files) {
-        Ok(ring) => serve_folder(alloc, ring, serving, station),
+        Ok(ring) => serve_folder(rt, alloc, ring, serving, station),
         Err(ending) => ending,
     }
 }

@@ -41,8 +41,9 @@ returns-in-Ok-serve-clause-ends g c =
         disk = shows.1 ∙ call.disk.faults ∙ c.in-Ok.ensures.counts;
         listener = shows.0 ∙ faults ∙ ap (λ (l : Listener). l.faults) alone.listener;
       },
-      λ t. serves_at g.S.Disk.tells c.args.ring words c.in-Ok.store (before t) (c.in-Ok.ensures.begins t).starts within c.config_of-config.ensures
-          (λ state from. still_kept call.disk.rests.crash ((c.in-Ok.ensures.begins t).kept state from)) (opens t) (c.in-Ok-serve.ensures.served t) (c.in-Ok-serve.ensures.fewer t),
+      λ t. serves_at g.S.Disk.tells c.args.ring words c.in-Ok.store (before t) (c.in-Ok.ensures.begins t).starts within
+          (λ state from. still_kept call.disk.rests.crash ((c.in-Ok.ensures.begins t).kept state from)) c.config_of-config.ensures
+          (opens t) (c.in-Ok-serve.ensures.served t) (c.in-Ok-serve.ensures.came t),
     )
 
 pub returns-in-Ok-serve-clause-headline : goal.returns-in-Ok-serve-clause-headline
@@ -74,8 +75,9 @@ returns-clause-ends g c =
     let opens : IsTrue g.S.Disk.tells → OpensAll (station_use g.S.Disk.tells old (g.S.Disk.told c.serve.new.station)) words = λ t. opens_all g.S.Disk.tells words (c.in-Ok.ensures.begins t).opens alone.listener call.disk (named t) c.serve.ensures.kept in
     subst (FolderEnds (station_use g.S.Disk.tells old (g.S.Disk.told c.serve.new.station)) c.args.ring words) (sym c.server_ending.ensures)
     (fault_ends g.S.Disk.tells c.args.ring words c.in-Ok.store c.in-Err-serve.fault c.config_of-config.ensures
-    before (λ t. (c.in-Ok.ensures.begins t).starts) within (call.disk.faults ∙ c.in-Ok.ensures.counts) (faults ∙ ap (λ (l : Listener). l.faults) alone.listener)
-    opens c.in-Err-serve.ensures.broken c.in-Err-serve.ensures.fault)
+    before (λ t. (c.in-Ok.ensures.begins t).starts) within
+    (λ t state from. still_kept call.disk.rests.crash ((c.in-Ok.ensures.begins t).kept state from)) (call.disk.faults ∙ c.in-Ok.ensures.counts) (faults ∙ ap (λ (l : Listener). l.faults) alone.listener)
+    opens c.in-Err-serve.ensures.broken c.in-Err-serve.ensures.came c.in-Err-serve.ensures.fault)
 
 pub returns-clause-headline : goal.returns-clause-headline
 returns-clause-headline g c t =
