@@ -75,7 +75,14 @@ def made(later=0, name="examplevault"):
     return reply(201, "Created", f"Location: /111122223333/vaults/{name}\r\n", "", later)
 
 
+def waits(head):
+    """The same head of a client that waits before its body."""
+    return head.replace("Auth", "Expect: 100-continue\r\nAuth")
+
+
 PUT = signed("PUT", VAULT)
+PUT_OF_3_BYTES = signed("PUT", VAULT, payload=sha256(b"abc"), length=3)
+PUT_OF_A_WRONG_DIGEST = signed("PUT", VAULT, [(HASH, sha256(b""))], length=3)
 V = "/111122223333/vaults/v"
 NO_VERSION = BASE[:2]
 LONG_HASH = sha256(b"a" * LONG)
@@ -95,9 +102,12 @@ REQUESTS = {
     "PUT_OF_UPPER_CASE": PUT.replace("Signature=7b", "Signature=7B"),
     "PUT_OF_ANOTHER_DIGIT": PUT.replace("Signature=7", "Signature=8"),
     "PUT_WITH_A_FIELD_MORE": PUT.replace("Auth", "x-amz-archive-description: x\r\nAuth"),
-    "PUT_OF_3_BYTES": signed("PUT", VAULT, payload=sha256(b"abc"), length=3),
+    "PUT_OF_3_BYTES": PUT_OF_3_BYTES,
+    "PUT_OF_3_BYTES_THAT_WAITS": waits(PUT_OF_3_BYTES),
+    "PUT_OF_NO_BYTE_THAT_WAITS": waits(PUT),
     "PUT_OF_A_DIGEST": signed("PUT", VAULT, [(HASH, sha256(b"abc"))], sha256(b"abc"), length=3),
-    "PUT_OF_A_WRONG_DIGEST": signed("PUT", VAULT, [(HASH, sha256(b""))], length=3),
+    "PUT_OF_A_WRONG_DIGEST": PUT_OF_A_WRONG_DIGEST,
+    "PUT_OF_A_WRONG_DIGEST_THAT_WAITS": waits(PUT_OF_A_WRONG_DIGEST),
     "PUT_OF_NO_DIGEST": signed("PUT", VAULT, [(HASH, "x")], "x"),
     "PUT_WITHOUT_DIGEST": signed("PUT", VAULT, length=LONG),
     "PUT_OF_A_LONG_BODY": signed("PUT", VAULT, [(HASH, LONG_HASH)], LONG_HASH, length=LONG),
@@ -126,6 +136,7 @@ REQUESTS = {
     ),
 }
 REPLIES = {
+    "CONTINUE": "HTTP/1.1 100 Continue\r\n\r\n",
     "MADE": made(),
     "MADE_LATER": made(900),
     "MADE_VAULT": made(0, "v"),

@@ -10,6 +10,7 @@ use glacier_server::{End, serve, serve_connection};
 use glacier_sigv4::KeyRing;
 use glacier_store::Store;
 use std::alloc::Global;
+use std::thread::Threads;
 
 /// Two accounts.
 const KEYS: &[u8] =
@@ -69,12 +70,17 @@ fn store_at<S: Station>(alloc: Global, station: &mut S) -> Option<Store>
     }
 }
 
-fn connection_end<S: Station>(alloc: Global, station: &mut S, store: Store) -> Option<End>
+fn connection_end<R: Threads + Sync, S: Station>(
+    rt: &R,
+    alloc: Global,
+    station: &mut S,
+    store: Store,
+) -> Option<End>
     requires open { (S.told station.old).opened ≡ true }
     requires connected { (S.told station.old).connected ≡ true }
 {
     match config(alloc) {
-        Some(config) => match serve_connection(alloc, station, store, &config) {
+        Some(config) => match serve_connection(rt, alloc, station, store, &config) {
             Ok((end, _)) => Some(end),
             Err(_) => None,
         },
@@ -82,37 +88,47 @@ fn connection_end<S: Station>(alloc: Global, station: &mut S, store: Store) -> O
     }
 }
 
-fn accepted_end<S: Station>(alloc: Global, station: &mut S, store: Store) -> Option<End>
+fn accepted_end<R: Threads + Sync, S: Station>(
+    rt: &R,
+    alloc: Global,
+    station: &mut S,
+    store: Store,
+) -> Option<End>
     requires open { (S.told station.old).opened ≡ true }
     requires listening { (S.told station.old).listener.listening ≡ true }
     requires free { (S.told station.old).connected ≡ false }
 {
     if accepts(station) {
-        connection_end(alloc, station, store)
+        connection_end(rt, alloc, station, store)
     } else {
         None
     }
 }
 
 /// How the first connection ends.
-fn first_end<S: Station>(alloc: Global, station: &mut S) -> Option<End>
+fn first_end<R: Threads + Sync, S: Station>(rt: &R, alloc: Global, station: &mut S) -> Option<End>
     requires closed { (S.told station.old).opened ≡ false }
     requires listening { (S.told station.old).listener.listening ≡ false }
     requires free { (S.told station.old).connected ≡ false }
 {
     match store_at(alloc, station) {
-        Some(store) => accepted_end(alloc, station, store),
+        Some(store) => accepted_end(rt, alloc, station, store),
         None => None,
     }
 }
 
-fn serve_some<S: Station>(alloc: Global, station: &mut S, store: Store) -> Option<u64>
+fn serve_some<R: Threads + Sync, S: Station>(
+    rt: &R,
+    alloc: Global,
+    station: &mut S,
+    store: Store,
+) -> Option<u64>
     requires open { (S.told station.old).opened ≡ true }
     requires listening { (S.told station.old).listener.listening ≡ true }
     requires free { (S.told station.old).connected ≡ false }
 {
     match config(alloc) {
-        Some(config) => match serve(alloc, station, store, &config, 9) {
+        Some(config) => match serve(rt, alloc, station, store, &config, 9) {
             Ok((count, _)) => Some(count),
             Err(_) => None,
         },
@@ -121,28 +137,33 @@ fn serve_some<S: Station>(alloc: Global, station: &mut S, store: Store) -> Optio
 }
 
 /// How many connections are served, where none of the station's accepts fails.
-fn served<S: Station>(alloc: Global, station: &mut S) -> Option<u64>
+fn served<R: Threads + Sync, S: Station>(rt: &R, alloc: Global, station: &mut S) -> Option<u64>
     requires closed { (S.told station.old).opened ≡ false }
     requires listening { (S.told station.old).listener.listening ≡ false }
     requires free { (S.told station.old).connected ≡ false }
 {
     match store_at(alloc, station) {
-        Some(store) => serve_some(alloc, station, store),
+        Some(store) => serve_some(rt, alloc, station, store),
         None => None,
     }
 }
 
 /// How the first connection ends, and whether these bytes were sent.
-pub fn held(alloc: Global, plan: &Plan, output: &[u8]) -> Option<(Option<End>, bool)> {
+pub fn held<R: Threads + Sync>(
+    rt: &R,
+    alloc: Global,
+    plan: &Plan,
+    output: &[u8],
+) -> Option<(Option<End>, bool)> {
     let mut station = MemStation::new(alloc, mem_plan(alloc, plan)?).ok()?;
-    let end = first_end(alloc, &mut station);
+    let end = first_end(rt, alloc, &mut station);
     Some((end, station.sent() == output))
 }
 
 /// How many connections are served.
-fn served_by(alloc: Global, plan: &Plan) -> Option<Option<u64>> {
+fn served_by<R: Threads + Sync>(rt: &R, alloc: Global, plan: &Plan) -> Option<Option<u64>> {
     let mut station = MemStation::new(alloc, mem_plan(alloc, plan)?).ok()?;
-    Some(served(alloc, &mut station))
+    Some(served(rt, alloc, &mut station))
 }
 
 /// So many bounds of receives.
@@ -151,10 +172,10 @@ pub fn bounds(alloc: Global, bound: usize, count: usize) -> Option<Vec<usize>> {
 }
 
 /// How an input in pieces of at most so many bytes ends.
-fn end_of(alloc: Global, input: &str, piece: usize) -> Option<End> {
+fn end_of<R: Threads + Sync>(rt: &R, alloc: Global, input: &str, piece: usize) -> Option<End> {
     let pieces = bounds(alloc, piece, 400)?;
     let inputs = [input.as_bytes(), b"".as_slice()];
-    let (end, _) = held(alloc, &plan(&inputs, &pieces, &[]), b"")?;
+    let (end, _) = held(rt, alloc, &plan(&inputs, &pieces, &[]), b"")?;
     end
 }
 
@@ -183,7 +204,7 @@ fn ends(rt: HostRuntime) {
     for (input, end) in ENDS {
         for piece in [1, 7, 400] {
             assert!(rt;
-                end_of(rt.alloc(), input, piece) == Some(end),
+                end_of(&rt, rt.alloc(), input, piece) == Some(end),
                 "{piece} of {input}"
             );
         }
@@ -202,12 +223,18 @@ const FAULTS: [(u64, Option<End>, Option<u64>); 6] = [
 ];
 
 /// Whether a request whose call with this number fails ends so, and so many are served.
-fn is_fault_kept(alloc: Global, fault: u64, end: Option<End>, count: Option<u64>) -> bool {
+fn is_fault_kept<R: Threads + Sync>(
+    rt: &R,
+    alloc: Global,
+    fault: u64,
+    end: Option<End>,
+    count: Option<u64>,
+) -> bool {
     let inputs = [b"GET /a HTTP/1.1\r\n\r\n".as_slice(), b"".as_slice()];
     let faults = [fault];
     let plan = plan(&inputs, &[], &faults);
-    match held(alloc, &plan, b"") {
-        Some((ended, _)) => ended == end && served_by(alloc, &plan) == Some(count),
+    match held(rt, alloc, &plan, b"") {
+        Some((ended, _)) => ended == end && served_by(rt, alloc, &plan) == Some(count),
         None => false,
     }
 }
@@ -215,6 +242,9 @@ fn is_fault_kept(alloc: Global, fault: u64, end: Option<End>, count: Option<u64>
 #[test]
 fn faults_end_one_connection(rt: HostRuntime) {
     for (fault, end, count) in FAULTS {
-        assert!(rt; is_fault_kept(rt.alloc(), fault, end, count), "{fault}");
+        assert!(rt;
+            is_fault_kept(&rt, rt.alloc(), fault, end, count),
+            "{fault}"
+        );
     }
 }

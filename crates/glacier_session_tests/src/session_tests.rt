@@ -14,8 +14,14 @@ use glacier_disk::{MemPlan, MemStation, Station, Torn};
 use glacier_server::serve;
 use glacier_store::{Store, StoreFault};
 use std::alloc::Global;
+use std::thread::Threads;
 
-fn listen_and_serve<S: Station>(alloc: Global, station: &mut S, store: Store) -> bool
+fn listen_and_serve<R: Threads + Sync, S: Station>(
+    rt: &R,
+    alloc: Global,
+    station: &mut S,
+    store: Store,
+) -> bool
     requires open { (S.told station.old).opened ≡ true }
     requires deaf { (S.told station.old).listener.listening ≡ false }
     requires free { (S.told station.old).connected ≡ false }
@@ -24,14 +30,14 @@ fn listen_and_serve<S: Station>(alloc: Global, station: &mut S, store: Store) ->
         return false;
     }
     match config(alloc) {
-        Some(config) => serve(alloc, station, store, &config, 9).is_ok(),
+        Some(config) => serve(rt, alloc, station, store, &config, 9).is_ok(),
         None => false,
     }
 }
 
 /// Opens the store and serves what comes. It answers whether no call of the disk or of the listener
 /// failed.
-fn serve_folder<S: Station>(alloc: Global, station: &mut S) -> bool
+fn serve_folder<R: Threads + Sync, S: Station>(rt: &R, alloc: Global, station: &mut S) -> bool
     requires closed { (S.told station.old).opened ≡ false }
     requires deaf { (S.told station.old).listener.listening ≡ false }
     requires free { (S.told station.old).connected ≡ false }
@@ -40,7 +46,7 @@ fn serve_folder<S: Station>(alloc: Global, station: &mut S) -> bool
         return false;
     }
     match Store::open(alloc, station) {
-        Ok(store) => listen_and_serve(alloc, station, store),
+        Ok(store) => listen_and_serve(rt, alloc, station, store),
         Err(_) => false,
     }
 }
@@ -107,10 +113,10 @@ fn all_allowed(alloc: Global, station: &MemStation, subject: &Subject) -> Option
     Some(true)
 }
 
-fn is_kept(alloc: Global, fault: u64) -> Option<bool> {
+fn is_kept<R: Threads + Sync>(rt: &R, alloc: Global, fault: u64) -> Option<bool> {
     let subject = row_subject()?;
     let mut station = MemStation::new(alloc, session(alloc, fault)?).ok()?;
-    let _is_served = serve_folder(alloc, &mut station);
+    let _is_served = serve_folder(rt, alloc, &mut station);
     let is_allowed = all_allowed(alloc, &station, &subject) == Some(true);
     Some(is_allowed)
 }
@@ -118,7 +124,7 @@ fn is_kept(alloc: Global, fault: u64) -> Option<bool> {
 #[test]
 fn what_was_answered_is_found_again(rt: HostRuntime) {
     for fault in 0..40 {
-        assert!(rt; is_kept(rt.alloc(), fault) == Some(true), "{fault}");
+        assert!(rt; is_kept(&rt, rt.alloc(), fault) == Some(true), "{fault}");
     }
 }
 
@@ -145,10 +151,10 @@ fn is_sent(alloc: Global, station: &MemStation) -> Option<bool> {
 
 /// Whether a session of which no call fails is answered in full, and leaves an account without the
 /// vault.
-fn is_answered(alloc: Global) -> Option<bool> {
+fn is_answered<R: Threads + Sync>(rt: &R, alloc: Global) -> Option<bool> {
     let subject = row_subject()?;
     let mut station = MemStation::new(alloc, session(alloc, 999)?).ok()?;
-    let is_served = serve_folder(alloc, &mut station);
+    let is_served = serve_folder(rt, alloc, &mut station);
     let is_whole = all_open(alloc, &station, &subject) == Some(true);
     let is_gone = is_gone(alloc, &station, &subject);
     Some(is_served && is_whole && is_gone && is_sent(alloc, &station) == Some(true))
@@ -156,5 +162,5 @@ fn is_answered(alloc: Global) -> Option<bool> {
 
 #[test]
 fn a_session_is_answered_and_kept(rt: HostRuntime) {
-    assert!(rt; is_answered(rt.alloc()) == Some(true));
+    assert!(rt; is_answered(&rt, rt.alloc()) == Some(true));
 }

@@ -1,5 +1,7 @@
 // Texts of signed replies: bench/signed_texts.py prints this file.
 
+pub const CONTINUE: &str = "HTTP/1.1 100 Continue\r\n\r\n";
+
 pub const MADE: &str = "HTTP/1.1 201 Created\r\n\
     Date: Fri, 25 May 2012 00:24:53 GMT\r\n\
     Location: /111122223333/vaults/examplevault\r\n\

@@ -79,6 +79,21 @@ pub const PUT_OF_3_BYTES: &str = "PUT /-/vaults/examplevault HTTP/1.1\r\n\
     Authorization: AWS4-HMAC-SHA256 Credential=AKIDEXAMPLE/20120525/us-east-1/glacier/aws4_request, SignedHeaders=host;x-amz-date;x-amz-glacier-version, Signature=9f46d9e00d13ac99a6f9a3f8d81f0fbb615319b8e87e0e19238d9579fc6c4335\r\n\
     Content-Length: 3\r\n\r\n";
 
+pub const PUT_OF_3_BYTES_THAT_WAITS: &str = "PUT /-/vaults/examplevault HTTP/1.1\r\n\
+    host: 127.0.0.1:8080\r\n\
+    x-amz-date: 20120525T002453Z\r\n\
+    x-amz-glacier-version: 2012-06-01\r\n\
+    Expect: 100-continue\r\n\
+    Authorization: AWS4-HMAC-SHA256 Credential=AKIDEXAMPLE/20120525/us-east-1/glacier/aws4_request, SignedHeaders=host;x-amz-date;x-amz-glacier-version, Signature=9f46d9e00d13ac99a6f9a3f8d81f0fbb615319b8e87e0e19238d9579fc6c4335\r\n\
+    Content-Length: 3\r\n\r\n";
+
+pub const PUT_OF_NO_BYTE_THAT_WAITS: &str = "PUT /-/vaults/examplevault HTTP/1.1\r\n\
+    host: 127.0.0.1:8080\r\n\
+    x-amz-date: 20120525T002453Z\r\n\
+    x-amz-glacier-version: 2012-06-01\r\n\
+    Expect: 100-continue\r\n\
+    Authorization: AWS4-HMAC-SHA256 Credential=AKIDEXAMPLE/20120525/us-east-1/glacier/aws4_request, SignedHeaders=host;x-amz-date;x-amz-glacier-version, Signature=7b620e9f654afab62a8b29be5e8459f5b14ba6f29b41aeaf04b4d32a15e7f35b\r\n\r\n";
+
 pub const PUT_OF_A_DIGEST: &str = "PUT /-/vaults/examplevault HTTP/1.1\r\n\
     host: 127.0.0.1:8080\r\n\
     x-amz-content-sha256: ba7816bf8f01cfea414140de5dae2223b00361a396177a9cb410ff61f20015ad\r\n\
@@ -92,6 +107,15 @@ pub const PUT_OF_A_WRONG_DIGEST: &str = "PUT /-/vaults/examplevault HTTP/1.1\r\n
     x-amz-content-sha256: e3b0c44298fc1c149afbf4c8996fb92427ae41e4649b934ca495991b7852b855\r\n\
     x-amz-date: 20120525T002453Z\r\n\
     x-amz-glacier-version: 2012-06-01\r\n\
+    Authorization: AWS4-HMAC-SHA256 Credential=AKIDEXAMPLE/20120525/us-east-1/glacier/aws4_request, SignedHeaders=host;x-amz-content-sha256;x-amz-date;x-amz-glacier-version, Signature=ee9dd3fc4417e133f9f05c7ddd6705f0aca62eb95f1114a22d00e9899ced11be\r\n\
+    Content-Length: 3\r\n\r\n";
+
+pub const PUT_OF_A_WRONG_DIGEST_THAT_WAITS: &str = "PUT /-/vaults/examplevault HTTP/1.1\r\n\
+    host: 127.0.0.1:8080\r\n\
+    x-amz-content-sha256: e3b0c44298fc1c149afbf4c8996fb92427ae41e4649b934ca495991b7852b855\r\n\
+    x-amz-date: 20120525T002453Z\r\n\
+    x-amz-glacier-version: 2012-06-01\r\n\
+    Expect: 100-continue\r\n\
     Authorization: AWS4-HMAC-SHA256 Credential=AKIDEXAMPLE/20120525/us-east-1/glacier/aws4_request, SignedHeaders=host;x-amz-content-sha256;x-amz-date;x-amz-glacier-version, Signature=ee9dd3fc4417e133f9f05c7ddd6705f0aca62eb95f1114a22d00e9899ced11be\r\n\
     Content-Length: 3\r\n\r\n";
 

@@ -6,6 +6,7 @@ use crate::signed_replies::*;
 use crate::signed_requests::*;
 use glacier_server::End;
 use std::alloc::Global;
+use std::thread::Threads;
 
 /// Friday, 25 May 2012, 00:24:53 UTC.
 const READING: u64 = 1_337_905_493;
@@ -20,7 +21,7 @@ type Dialogue = (
 
 const ON_TIME: &[u64] = &[READING];
 
-const DIALOGUES: [Dialogue; 10] = [
+const DIALOGUES: [Dialogue; 11] = [
     (
         "the same twice makes one vault",
         ON_TIME,
@@ -96,6 +97,18 @@ const DIALOGUES: [Dialogue; 10] = [
         ON_TIME,
         &[PUT_OF_3_BYTES, "abc", PUT_OF_A_DIGEST, "abc"],
         &[MADE, MADE],
+    ),
+    (
+        "a client that waits is asked for its body, also where that is refused then",
+        ON_TIME,
+        &[
+            PUT_OF_3_BYTES_THAT_WAITS,
+            "abc",
+            PUT_OF_A_WRONG_DIGEST_THAT_WAITS,
+            "abc",
+            PUT_OF_NO_BYTE_THAT_WAITS,
+        ],
+        &[CONTINUE, MADE, CONTINUE, MISMATCH, MADE],
     ),
     // No route: a method, another path, a path that goes on, a list of vaults, 11 digits, a POST.
     // Bad names come before the account. Then in order: the account, a token, the version, a header
@@ -209,13 +222,13 @@ const LONG: [Long; 9] = [
 ];
 
 /// Whether an input in pieces of at most so many bytes is answered with this output, and ends so.
-fn is_answered(
+fn is_answered<R: Threads + Sync>(
+    rt: &R,
     alloc: Global,
     input: &str,
     piece: usize,
     seconds: &[u64],
-    output: &str,
-    end: End,
+    (output, end): (&str, End),
 ) -> Option<bool> {
     let pieces = bounds(alloc, piece, 2000)?;
     let plan = Plan {
@@ -226,20 +239,25 @@ fn is_answered(
         seconds,
         faults: &[],
     };
-    Some(held(alloc, &plan, output.as_bytes()) == Some((Some(end), true)))
+    Some(held(rt, alloc, &plan, output.as_bytes()) == Some((Some(end), true)))
 }
 
-fn is_held(alloc: Global, dialogue: &Dialogue, piece: usize) -> Option<bool> {
+fn is_held<R: Threads + Sync>(
+    rt: &R,
+    alloc: Global,
+    dialogue: &Dialogue,
+    piece: usize,
+) -> Option<bool> {
     let (_, seconds, requests, replies) = *dialogue;
     let input = requests.concat(alloc).ok()?;
     let output = replies.concat(alloc).ok()?;
     is_answered(
+        rt,
         alloc,
         input.as_str(),
         piece,
         seconds,
-        output.as_str(),
-        End::Closed,
+        (output.as_str(), End::Closed),
     )
 }
 
@@ -248,7 +266,7 @@ fn signed_dialogues(rt: HostRuntime) {
     for row in &DIALOGUES {
         for piece in [1, 7, 65_536] {
             assert!(rt;
-                is_held(rt.alloc(), row, piece) == Some(true),
+                is_held(&rt, rt.alloc(), row, piece) == Some(true),
                 "{} by {piece}",
                 row.0
             );
@@ -262,18 +280,18 @@ fn repeated(alloc: Global, text: &str, count: usize, last: &str) -> Option<Strin
     [first.as_str(), last].concat(alloc).ok()
 }
 
-fn is_long_held(alloc: Global, long: &Long) -> Option<bool> {
+fn is_long_held<R: Threads + Sync>(rt: &R, alloc: Global, long: &Long) -> Option<bool> {
     let (count, text, letters, replies, reply, last, end) = *long;
     let letters = "a".repeat(alloc, letters).ok()?;
     let input = repeated(alloc, text, count, letters.as_str())?;
     let output = repeated(alloc, reply, replies, last)?;
     is_answered(
+        rt,
         alloc,
         input.as_str(),
         65_536,
         &[READING],
-        output.as_str(),
-        end,
+        (output.as_str(), end),
     )
 }
 
@@ -281,7 +299,7 @@ fn is_long_held(alloc: Global, long: &Long) -> Option<bool> {
 fn long_dialogues(rt: HostRuntime) {
     for row in &LONG {
         assert!(rt;
-            is_long_held(rt.alloc(), row) == Some(true),
+            is_long_held(&rt, rt.alloc(), row) == Some(true),
             "{} {}",
             row.0,
             row.1

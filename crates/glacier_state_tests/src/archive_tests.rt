@@ -5,8 +5,8 @@ ghost use Rattle.glacier_vault.specs.Lawful.{IsLawful};
 
 use crate::ground::{Ground, account_on, ground_of};
 use glacier_base::{Digest, List, Memory};
-use glacier_upload::{Found, MOST_BLOCKS, UploadAsk, admit_upload, commit_upload};
-use glacier_vault::{AccountState, Archive, Event, Refusal, used};
+use glacier_upload::{Found, UploadAsk, admit_upload, commit_upload};
+use glacier_vault::{AccountState, Archive, Event, Refusal};
 use std::alloc::Global;
 
 const ABC: &str = "ba7816bf8f01cfea414140de5dae2223b00361a396177a9cb410ff61f20015ad";
@@ -75,9 +75,6 @@ fn uploaded(
         linear,
         tree,
     };
-    if used(state) > MOST_BLOCKS || ground.rules.quota > MOST_BLOCKS {
-        return Ok(Said::Other);
-    }
     if admit_upload(state, &ground.rules, &ask).is_some() {
         return Ok(Said::Other);
     }

@@ -71,7 +71,7 @@ fn change_said(change: &Change) -> Said {
     }
 }
 
-fn is_ordered(range: Option<(u64, u64)>) -> bool
+pub(crate) fn is_ordered(range: Option<(u64, u64)>) -> bool
     ensures { result ≡ true → IfSome range (λ range. range.0 ≤ range.1) }
 {
     match range {

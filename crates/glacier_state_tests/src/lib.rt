@@ -7,6 +7,8 @@ mod archive_tests;
 #[cfg(test)]
 mod body_tests;
 #[cfg(test)]
+mod counter_tests;
+#[cfg(test)]
 mod extents_tests;
 #[cfg(test)]
 mod ground;
@@ -36,6 +38,16 @@ mod record_tests;
 mod replayed_tests;
 #[cfg(test)]
 mod restore_tests;
+#[cfg(test)]
+mod step_tests;
+#[cfg(test)]
+mod store_archive_tests;
+#[cfg(test)]
+mod store_body_calls;
+#[cfg(test)]
+mod store_body_tests;
+#[cfg(test)]
+mod store_read_tests;
 #[cfg(test)]
 mod upload_calls;
 #[cfg(test)]

@@ -7,10 +7,10 @@ use crate::ground::{Ground, passed};
 use glacier_base::{Digest, List, Memory};
 use glacier_treehash::root_of;
 use glacier_upload::{
-    Found, MOST_BLOCKS, PartAsk, UploadAsk, abort, admit_part, admit_upload, begin, commit_part,
-    commit_upload, complete,
+    Found, PartAsk, UploadAsk, abort, admit_part, admit_upload, begin, commit_part, commit_upload,
+    complete,
 };
-use glacier_vault::{AccountState, Change, Refusal, blocks_of, delete_archive, used};
+use glacier_vault::{AccountState, Change, Refusal, blocks_of, delete_archive};
 use std::alloc::Global;
 
 /// A call. The leaves of a body are of 32 bytes `leaf`, and its SHA-256 is 32 bytes 9.
@@ -93,7 +93,7 @@ fn answer_said(answer: &Result<Change, Refusal>) -> Said {
 }
 
 /// What was found in a body of this size.
-fn found_in(alloc: Global, size: u64, leaf: u8) -> Result<Found, Memory>
+pub(crate) fn found_in(alloc: Global, size: u64, leaf: u8) -> Result<Found, Memory>
     ensures { IfOk result (λ found. length found.leaves ≡ need size) }
 {
     let leaves = vec![in alloc; Digest([leaf; 32]); blocks_of(size) as usize]?;
@@ -103,7 +103,7 @@ fn found_in(alloc: Global, size: u64, leaf: u8) -> Result<Found, Memory>
     })
 }
 
-fn tree_of(found: &Found) -> Digest {
+pub(crate) fn tree_of(found: &Found) -> Digest {
     match root_of(found.leaves.as_slice()) {
         Some(root) => root,
         None => Digest([0; 32]),
@@ -130,9 +130,6 @@ fn upload(
         linear: Digest([said; 32]),
         tree: tree_of(&found),
     };
-    if used(state) > MOST_BLOCKS || ground.rules.quota > MOST_BLOCKS {
-        return Ok(Said::Other);
-    }
     if let Some(refusal) = admit_upload(state, &ground.rules, &ask) {
         return Ok(refusal_said(&refusal));
     }
@@ -162,7 +159,7 @@ pub(crate) fn part(
         linear: Digest([9; 32]),
         tree: tree_of(&found),
     };
-    if used(state) > MOST_BLOCKS || ground.rules.quota > MOST_BLOCKS || size < 1 {
+    if size < 1 {
         return Ok(Said::Other);
     }
     if let Some(refusal) = admit_part(state, &ground.rules, &ask) {
