@@ -21,7 +21,7 @@ type Dialogue = (
 
 const ON_TIME: &[u64] = &[READING];
 
-const DIALOGUES: [Dialogue; 11] = [
+const DIALOGUES: [Dialogue; 6] = [
     (
         "the same twice makes one vault",
         ON_TIME,
@@ -59,6 +59,9 @@ const DIALOGUES: [Dialogue; 11] = [
         &[PUT, GET_OF_FIRST_BY_OTHER, GET_BY_OTHER],
         &[MADE, OTHER_ACCOUNT, NO_VAULT],
     ),
+];
+
+const MORE_DIALOGUES: [Dialogue; 4] = [
     (
         "what isn't verified changes nothing",
         ON_TIME,
@@ -97,18 +100,6 @@ const DIALOGUES: [Dialogue; 11] = [
         ON_TIME,
         &[PUT_OF_3_BYTES, "abc", PUT_OF_A_DIGEST, "abc"],
         &[MADE, MADE],
-    ),
-    (
-        "a client that waits is asked for its body, also where that is refused then",
-        ON_TIME,
-        &[
-            PUT_OF_3_BYTES_THAT_WAITS,
-            "abc",
-            PUT_OF_A_WRONG_DIGEST_THAT_WAITS,
-            "abc",
-            PUT_OF_NO_BYTE_THAT_WAITS,
-        ],
-        &[CONTINUE, MADE, CONTINUE, MISMATCH, MADE],
     ),
     // No route: a method, another path, a path that goes on, a list of vaults, 11 digits, a POST.
     // Bad names come before the account. Then in order: the account, a token, the version, a header
@@ -259,6 +250,46 @@ fn is_held<R: Threads + Sync>(
         seconds,
         (output.as_str(), End::Closed),
     )
+}
+
+#[test]
+fn more_signed_dialogues(rt: HostRuntime) {
+    for row in &MORE_DIALOGUES {
+        for piece in [1, 7, 65_536] {
+            assert!(rt;
+                is_held(&rt, rt.alloc(), row, piece) == Some(true),
+                "{} by {piece}",
+                row.0
+            );
+        }
+    }
+}
+
+/// Clients that wait for the interim line before they send a body.
+const WAITING: [Dialogue; 1] = [(
+    "a client that waits is asked for its body, also where that is refused then",
+    ON_TIME,
+    &[
+        PUT_OF_3_BYTES_THAT_WAITS,
+        "abc",
+        PUT_OF_A_WRONG_DIGEST_THAT_WAITS,
+        "abc",
+        PUT_OF_NO_BYTE_THAT_WAITS,
+    ],
+    &[CONTINUE, MADE, CONTINUE, MISMATCH, MADE],
+)];
+
+#[test]
+fn waiting_dialogues(rt: HostRuntime) {
+    for row in &WAITING {
+        for piece in [1, 7, 65_536] {
+            assert!(rt;
+                is_held(&rt, rt.alloc(), row, piece) == Some(true),
+                "{} by {piece}",
+                row.0
+            );
+        }
+    }
 }
 
 #[test]

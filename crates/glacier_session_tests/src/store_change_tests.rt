@@ -1,5 +1,6 @@
 // What the changes of a store leave on a disk in memory.
 ghost use Rattle.std.specs.Prelude.{◌≡◌, IfOk, OnOk, false, true};
+ghost use Rattle.glacier_machine.specs.Actions.{stores_body, HasOrder};
 
 use crate::plans::{Image, disk_plan};
 use crate::store_tests::{CREATED, Subject, WITH_V, WITHOUT_V, holds, row_subject};
@@ -12,7 +13,10 @@ use std::alloc::Global;
 /// A PUT or else a DELETE of the vault, and its status.
 type Request = (bool, u16);
 
-fn action_of(is_put: bool, vault: VaultName) -> Action {
+fn action_of(is_put: bool, vault: VaultName) -> Action
+    ensures plain { stores_body result ≡ false }
+    ensures order { HasOrder result }
+{
     if is_put {
         Action::CreateVault { vault }
     } else {
