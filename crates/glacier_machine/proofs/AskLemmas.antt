@@ -19,7 +19,7 @@ use Rattle.glacier_requests.proofs.RisingRanges.{went_on, job_range_rises, outpu
 use Rattle.glacier_sigv4.specs.Verdict.{Verdict}
 use Rattle.glacier_vault.specs.declared.refusal.Refusal.{Refusal}
 use Rattle.glacier_vault.specs.declared.refusal.Refusal.TheVariants.{NoRoute}
-use Rattle.glacier_machine.specs.Actions.{stores_body, HasOrder, IsPlain}
+use Rattle.glacier_machine.specs.Actions.{stores_body, HasOrder, HasSize}
 use Rattle.glacier_machine.specs.Asks.{kind_asked, job_asked, upload_asked, takes_body, routes_body, some_value, is_bulk_head}
 use Rattle.glacier_machine.specs.ContentHash.{named_hashes, need_refusal}
 use Rattle.glacier_machine.specs.Requests.{request_refusal, is_offered, offered_kind, offered_job, unless, action_of}
@@ -78,6 +78,22 @@ upload_streams vault length (value ∷ more) rest = go (and_then (one_digest (co
     go (Ok said) = refl
     go (Err refusal) = tt
 
+-- an upload is one of as many bytes as its body has
+upload_size : (vault : List ℕ) (length : ℕ) (r : Result UploadHead Refusal)
+    → IfOk (and_then r (λ said. Ok (action.Upload (upload_asked vault said length)))) (HasSize length)
+upload_size vault length (Ok said) = refl
+upload_size vault length (Err refusal) = tt
+
+job_size : (vault : List ℕ) (length : ℕ) (r : Result JobBody Refusal)
+    → IfOk (and_then r (λ said. Ok (action.BeginJob (job_asked vault said)))) (HasSize length)
+job_size vault length (Ok said) = tt
+job_size vault length (Err refusal) = tt
+
+action_size : (o : Op) (head : HeadText) (length : ℕ) (body : List ℕ) → IfOk (action_of o head length body) (HasSize length)
+action_size (op.Upload vault) head length body = upload_size vault length (upload_head_of head)
+action_size (op.BeginJob vault) head length body = job_size vault length (and_then (job_body_of body) offered_job)
+action_size _ head length body = tt
+
 begun_streams : (vault : List ℕ) (r : Result JobBody Refusal)
     → IfOk (and_then r (λ said. Ok (action.BeginJob (job_asked vault said)))) (λ a. stores_body a ≡ false)
 begun_streams vault (Ok said) = refl
@@ -124,35 +140,14 @@ routed_streams found.NoRoute signer head n body = tt
 routed_streams found.BadName signer head n body = tt
 routed_streams found.BadId signer head n body = tt
 
--- no body is stored and no output is given, as long as these aren't offered
-plain_job : (vault : List ℕ) (r : Result JobBody Refusal)
-    → IfOk (and_then r (λ said. Ok (action.BeginJob (job_asked vault said)))) IsPlain
-plain_job vault (Ok said) = (refl, refl)
-plain_job vault (Err refusal) = tt
-
-offered_plain : (o : Op) (head : HeadText) (length : ℕ) (body : List ℕ)
-    → IfOk (cond (is_offered o) (action_of o head length body) (Err NoRoute)) IsPlain
-offered_plain (op.BeginJob vault) head length body = plain_job vault (and_then (job_body_of body) offered_job)
-offered_plain (op.CreateVault vault) head length body = (refl, refl)
-offered_plain (op.DescribeVault vault) head length body = (refl, refl)
-offered_plain (op.DeleteVault vault) head length body = (refl, refl)
-offered_plain (op.DeleteArchive vault archive) head length body = (refl, refl)
-offered_plain (op.DescribeJob vault job) head length body = (refl, refl)
-offered_plain _ head length body = tt
-
-refused_plain : (t : Bool) (refused : Option Refusal) (r : Result Action Refusal)
-    → IfOk (cond t r (Err NoRoute)) IsPlain → IfOk (cond t (unless refused r) (Err NoRoute)) IsPlain
-refused_plain true None r h = h
-refused_plain true (Some refusal) r h = tt
-refused_plain false refused r h = tt
-
-routed_plain : (step : RouteStep) (signer : List ℕ) (head : HeadText) (n : ℕ) (body : List ℕ)
-    → IfOk (routed_asked step signer head n body) IsPlain
-routed_plain (found.Route route) signer head n body =
-    refused_plain (is_offered route.op) (request_refusal route signer head n body) _ (offered_plain route.op head n body)
-routed_plain found.NoRoute signer head n body = tt
-routed_plain found.BadName signer head n body = tt
-routed_plain found.BadId signer head n body = tt
+routed_size : (step : RouteStep) (signer : List ℕ) (head : HeadText) (n : ℕ) (body : List ℕ)
+    → IfOk (routed_asked step signer head n body) (HasSize n)
+routed_size (found.Route route) signer head n body =
+    offered_holds (HasSize n) signer head n body (is_offered route.op) _ _
+    (unless_holds (HasSize n) signer head n body (request_refusal route signer head n body) _ (action_size route.op head n body))
+routed_size found.NoRoute signer head n body = tt
+routed_size found.BadName signer head n body = tt
+routed_size found.BadId signer head n body = tt
 
 -- what holds of what each signer asks for holds of the request
 request_holds : (P : Action → Type 0) (config : Config) (head : HeadText) (n : ℕ) (body : List ℕ) (reading : ℕ)
@@ -173,11 +168,11 @@ pub asked_is_in_order : (config : Config) (head : HeadText) (n : ℕ) (body : Li
 asked_is_in_order config head n body reading =
     request_holds HasOrder config head n body reading (λ signer. routed_order (route_of head) signer head n body)
 
--- it stores no body, and gives no output, as long as these aren't offered
-pub asked_is_plain : (config : Config) (head : HeadText) (n : ℕ) (body : List ℕ) (reading : ℕ)
-    → IfOk (request_with config head n body reading) (λ request. IfOk request.asked IsPlain)
-asked_is_plain config head n body reading =
-    request_holds IsPlain config head n body reading (λ signer. routed_plain (route_of head) signer head n body)
+-- an upload is asked for with the size of its body
+pub asked_has_size : (config : Config) (head : HeadText) (n : ℕ) (body : List ℕ) (reading : ℕ)
+    → IfOk (request_with config head n body reading) (λ request. IfOk request.asked (HasSize n))
+asked_has_size config head n body reading =
+    request_holds (HasSize n) config head n body reading (λ signer. routed_size (route_of head) signer head n body)
 
 -- and it stores the body exactly where its head says so
 pub asked_is_bulk : (config : Config) (head : HeadText) (n : ℕ) (body : List ℕ) (reading : ℕ)

@@ -39,9 +39,14 @@ module _ (config : Config) (accounts : Accounts) (head : HeadText) (a b : List �
       (same_signer config head a b reading value more named)
 
 -- what time does for a message depends on its head alone
+pub bulk_head_passed : (config : Config) (accounts : Accounts) (head : HeadText) (a b : List ℕ) (reading : ℕ) → is_bulk_head head ≡ true
+    → (request_outcome config accounts (request_in config head a reading) a reading).passed
+    ≡ (request_outcome config accounts (request_in config head b reading) b reading).passed
+bulk_head_passed config accounts head a b reading bulk =
+    let parts = and_parts (routes_body (route_of head)) (some_value (named_hashes head)) bulk in
+    by_hashes config accounts head a b reading (named_hashes head) refl parts.1
+
 pub bulk_passed : (config : Config) (accounts : Accounts) (head : RequestHead) (body : List ℕ) (reading : ℕ)
     → is_bulk_head (text_of head) ≡ true
     → (one config accounts (good head body) reading).passed ≡ (one config accounts (good head []) reading).passed
-bulk_passed config accounts head body reading bulk =
-    let parts = and_parts (routes_body (route_of (text_of head))) (some_value (named_hashes (text_of head))) bulk in
-    by_hashes config accounts (text_of head) body [] reading (named_hashes (text_of head)) refl parts.1
+bulk_passed config accounts head body reading bulk = bulk_head_passed config accounts (text_of head) body [] reading bulk

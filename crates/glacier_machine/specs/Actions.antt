@@ -1,6 +1,8 @@
 -- What is known of actions before they are done.
-use Rattle.std.specs.Prelude.{◌≡◌, ◌≤◌, Bool, true, false, IfSome}
+use Rattle.std.specs.Prelude.{◌≡◌, ◌≤◌, ℕ, Bool, true, false, IfSome}
+use Rattle.glacier_http.specs.declared.reply.Reply.{Reply}
 use Rattle.glacier_job.specs.Work.{HasOrderedRange}
+use Rattle.glacier_replies.specs.Fields.{HasShortFields}
 use Rattle.glacier_machine.specs.declared.action.Action.{Action}
 use Rattle.glacier_machine.specs.declared.action.Action.TheVariants.{CreateVault, DescribeVault, DeleteVault, Upload, BeginJob, DescribeJob, JobOutput}
 
@@ -9,14 +11,10 @@ abbrev pub stores_body : Action → Bool
 stores_body (Upload ask) = true
 stores_body _ = false
 
--- whether the reply to an action has its body in an archive
-abbrev pub gives_stretch : Action → Bool
-gives_stretch (JobOutput name job range) = true
-gives_stretch _ = false
-
--- an action that stores no body, and whose reply is at hand
-abbrev pub IsPlain : Action → Type 0
-IsPlain action = (stores_body action ≡ false) × (gives_stretch action ≡ false)
+-- an upload is one of so many bytes
+abbrev pub HasSize : ℕ → Action → Type 0
+HasSize n (Upload ask) = ask.size ≡ n
+HasSize n _ = Unit {0}
 
 -- a range that an action names begins where it ends or before
 abbrev pub HasOrder : Action → Type 0
@@ -32,3 +30,8 @@ is_undone (DeleteVault name) = true
 is_undone (DescribeJob name job) = true
 is_undone (JobOutput name job range) = true
 is_undone _ = false
+
+-- the fields of the reply to the question for a job's output are short
+abbrev pub HasShortOutput : Action → Reply → Type 0
+HasShortOutput (JobOutput name job range) reply = HasShortFields reply
+HasShortOutput _ reply = Unit {0}

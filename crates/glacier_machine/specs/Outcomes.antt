@@ -14,7 +14,7 @@ use Rattle.glacier_machine.specs.declared.config.Config.{Config}
 use Rattle.glacier_machine.specs.AccountSteps.{asked_step}
 use Rattle.glacier_machine.specs.Moments.{after_moment, moment_change}
 use Rattle.glacier_machine.specs.Steps.{Step}
-use Rattle.glacier_machine.specs.declared.action.Stretch.{Stretch}
+use Rattle.glacier_machine.specs.declared.action.Output.{Output}
 use Rattle.glacier_replies.specs.Refusals.{head_refusal}
 use Rattle.glacier_replies.specs.Replies.{refused}
 use Rattle.glacier_machine.specs.SignedRequests.{request_in}
@@ -22,8 +22,8 @@ use Rattle.glacier_machine.specs.SignedRequests.{request_in}
 -- what a message brings about
 pub record Outcome : Type 0 where
   pub reply : Reply
-  -- the account and the stretch of an archive whose bytes are the reply's body: where there is none, the reply has its body itself
-  pub output : Option (List ℕ × Stretch)
+  -- the output whose bytes are the reply's body: where there is none, the reply has its body itself
+  pub output : Option Output
   -- the events of the time that passes for its account
   pub passed : List AccountEvent
   -- the events of what is asked for, behind them
@@ -46,7 +46,7 @@ events_of account m (Some event) body = record { account = account; moment = m; 
 abbrev pub step_outcome : List ℕ → ℕ → List AccountEvent → Step → Outcome
 step_outcome account m passed step = record {
   reply = step.answer.reply;
-  output = option_map (λ stretch. (account, stretch)) step.answer.stretch;
+  output = option_map (λ stretch. record { account = account; stretch = stretch }) step.answer.stretch;
   passed = passed;
   done = events_of account m step.answer.change.event step.stored;
 }

@@ -17,7 +17,7 @@ mod same;
 mod signed_requests;
 mod steps;
 
-pub use action::{Action, Answer, Request, Stretch};
+pub use action::{Action, Answer, Output, Request, Stretch};
 pub use archive_steps::{delete_archive, upload};
 pub use asks::{is_bulk, job_ask, upload_ask};
 pub use config::Config;

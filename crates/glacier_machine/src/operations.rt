@@ -11,13 +11,14 @@ use glacier_requests::{JobBody, JobKind, Op, Unread, job_body, output_range, upl
 use glacier_vault::Refusal;
 use std::alloc::Global;
 
-/// Whether an operation is done: uploads and the output of jobs aren't yet.
+/// Whether an operation is done.
 pub(crate) fn is_offered(op: &Op) -> bool
     ensures { result ≡ is_offered_by op.now }
 {
     match op {
         Op::CreateVault { .. } | Op::DescribeVault { .. } | Op::DeleteVault { .. } => true,
-        Op::DeleteArchive { .. } | Op::BeginJob { .. } | Op::DescribeJob { .. } => true,
+        Op::Upload { .. } | Op::DeleteArchive { .. } => true,
+        Op::BeginJob { .. } | Op::DescribeJob { .. } | Op::JobOutput { .. } => true,
         _ => false,
     }
 }

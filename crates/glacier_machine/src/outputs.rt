@@ -1,6 +1,7 @@
 // The outputs of jobs.
 ghost use Rattle.std.specs.Option.{option_copied};
-ghost use Rattle.std.specs.Prelude.{◌≡◌, ◌≤◌, ◌+◌, IfOk, IfSome, Some, length};
+ghost use Rattle.std.specs.Prelude.{◌≡◌, ◌≤◌, ◌+◌, IfOk, IfSome, Some, None, length};
+ghost use Rattle.glacier_replies.specs.Fields.{HasShortFields};
 ghost use Rattle.glacier_replies.specs.JobReplies.{output};
 ghost use Rattle.glacier_vault.specs.Lawful.{IsLawful, IsLawfulBody};
 ghost use Rattle.glacier_vault.specs.Rows.{no_change};
@@ -11,6 +12,7 @@ use crate::answers::{refused_answer, unchanged};
 use glacier_base::{Digest, Memory, Text, VaultName};
 use glacier_http::Kind;
 use glacier_job::{find, output_range};
+use glacier_replies::laws::output_fields_are_short;
 use glacier_replies::output_reply;
 use glacier_treehash::range_hash;
 use glacier_vault::{AccountState, Archive, Change, Work};
@@ -83,6 +85,23 @@ fn stretch_of(vault: &VaultName, archive: u64, first: u64, end: u64, part: (u64,
     }
 }
 
+/// A range has few digits.
+fn range_is_short(first: u64, last: u64, length: u64)
+    ensures { HasShortFields (output (Some (first, last)) length None) }
+{}
+
+/// The fields of the reply that goes before an output are short.
+fn fields_are_short(asked: Option<(u64, u64)>, length: u64, tree: &Option<Digest>)
+    ensures { HasShortFields (output asked length tree.now) }
+{
+    match (asked, tree) {
+        (None, None) => {}
+        (None, Some(tree)) => output_fields_are_short(0, 0, length, tree),
+        (Some((first, last)), None) => range_is_short(first, last, length),
+        (Some((first, last)), Some(tree)) => output_fields_are_short(first, last, length, tree),
+    }
+}
+
 /// The answer with a stretch of an archive, of an output of so many bytes.
 fn archive_answer(
     alloc: Global,
@@ -94,15 +113,17 @@ fn archive_answer(
 ) -> Result<Answer, Memory>
     requires { IfSome (archive_stored state.now stretch.vault stretch.archive) (λ there.
         IsLawfulBody there.size there.leaves there.tree) }
-    ensures { IfOk result (λ answer. answer ≡ record {
+    ensures answer { IfOk result (λ answer. answer ≡ record {
       reply = output asked length (tree_of_sent range
           (archive_stored state.now stretch.vault stretch.archive) stretch.first stretch.end);
       stretch = Some stretch;
       change = no_change;
     }) }
+    ensures short { IfOk result (λ answer. HasShortFields answer.reply) }
 {
     let stored = stored_archive(state, &stretch.vault, stretch.archive);
     let tree = sent_tree(range, stored, stretch.first, stretch.end);
+    fields_are_short(asked, length, &tree);
     let reply = output_reply(alloc, asked, length, tree)?;
     Ok(Answer {
         reply,
@@ -121,8 +142,11 @@ fn inventory_answer(
 ) -> Result<Answer, Memory>
     requires order { part.0 ≤ part.1 }
     requires within { part.1 ≤ length inventory.now }
-    ensures { IfOk result (λ answer. answer ≡ inventory_part csv asked inventory.now part) }
+    ensures answer { IfOk result (λ answer. answer
+        ≡ inventory_part csv asked inventory.now part) }
+    ensures short { IfOk result (λ answer. HasShortFields answer.reply) }
 {
+    fields_are_short(asked, inventory.len() as u64, &None);
     let mut reply = output_reply(alloc, asked, inventory.len() as u64, None)?;
     reply.kind = inventory_kind(csv);
     reply.body = Text::of(alloc, &inventory[part.0 as usize..part.1 as usize])?;
@@ -142,8 +166,9 @@ fn part_answer(
     requires work { HasBytes state.now name.now work.now }
     requires order { part.0 ≤ part.1 }
     requires within { part.1 ≤ length_of_output work.now inventory.now }
-    ensures { IfOk result (λ answer. answer
+    ensures answer { IfOk result (λ answer. answer
         ≡ output_answer state.now name.now work.now asked inventory.now part) }
+    ensures short { IfOk result (λ answer. HasShortFields answer.reply) }
 {
     match work {
         Work::Archive {
@@ -174,8 +199,9 @@ pub fn job_output(
 ) -> Result<Answer, Memory>
     requires lawful { IsLawful state.now }
     requires order { IfSome range (λ range. range.0 ≤ range.1) }
-    ensures { IfOk result (λ answer. answer
+    ensures answer { IfOk result (λ answer. answer
         ≡ (job_output_step name.now job range inventory.now state.now).answer) }
+    ensures short { IfOk result (λ answer. HasShortFields answer.reply) }
 {
     let found = match find(state, name, job) {
         Ok(found) => found,

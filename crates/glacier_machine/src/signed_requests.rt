@@ -2,7 +2,7 @@
 ghost use Rattle.std.specs.Prelude.{◌≡◌, ℕ, List, length, IfOk, false};
 ghost use Rattle.glacier_http.specs.View.{HasNames};
 ghost use Rattle.glacier_machine.specs.SignedRequests.{fault_refusal as refusal_of_fault, signer_of, routed_asked, asked_by, verified_request as request_of_verdict, request_with as request_of_head, request_in, RefusesInAscii, IsBodyKept};
-ghost use Rattle.glacier_machine.specs.Actions.{stores_body, HasOrder, IsPlain};
+ghost use Rattle.glacier_machine.specs.Actions.{stores_body, HasOrder, HasSize};
 ghost use Rattle.glacier_machine.specs.Asks.{is_bulk_head};
 ghost use Rattle.glacier_requests.specs.Reads.{Reads};
 ghost use Rattle.glacier_requests.specs.declared.routes.RouteStep.TheVariants as found;
@@ -167,8 +167,8 @@ pub fn read_request(
     ensures order { IfOk result (λ read. IfOk read (λ request. IfOk request.asked HasOrder)) }
     ensures bulk { IfOk result (λ read. IfOk read (λ request.
         IfOk request.asked (λ action. stores_body action ≡ is_bulk_head head.now))) }
-    ensures plain { IfOk result (λ read. IfOk read (λ request.
-        IfOk request.asked IsPlain)) }
+    ensures size { IfOk result (λ read. IfOk read (λ request.
+        IfOk request.asked (HasSize content_length))) }
 {
     let _names = head.count();
     read(alloc, config, head, content_length, body, reading)

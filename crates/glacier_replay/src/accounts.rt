@@ -1,5 +1,5 @@
 // The state of all accounts.
-ghost use Rattle.std.specs.Prelude.{◌≡◌, OnOk, if◌then◌else◌};
+ghost use Rattle.std.specs.Prelude.{◌≡◌, IfSome, OnOk, if◌then◌else◌};
 ghost use Rattle.std.specs.FinMap as map;
 ghost use Rattle.std.specs.Option.{option_copied};
 ghost use Rattle.glacier_job.specs.Pass.{pass_is_event};
@@ -68,7 +68,8 @@ impl Accounts {
 
     /// The state of an account, if it was ever changed.
     pub fn get(&self, account: &Account) -> Option<&AccountState>
-        ensures { option_copied result ≡ map.get self.now account.now }
+        ensures state { option_copied result ≡ map.get self.now account.now }
+        ensures lawful { IfSome result (λ state. IsLawful state.now) }
     {
         self.accounts.get(account)
     }

@@ -1,10 +1,10 @@
 use Rattle.std.proofs.lemmas.Result.{IfOk-weaker}
 use Rattle.std.proofs.Common.{◌≡◌, ◌∙◌, subst, sym}
 use Rattle.std.specs.Prelude.{IfOk}
-use Rattle.glacier_machine.specs.Actions.{stores_body, HasOrder, IsPlain}
+use Rattle.glacier_machine.specs.Actions.{stores_body, HasOrder, HasSize}
 use Rattle.glacier_machine.specs.Asks.{is_bulk_head}
 use Rattle.glacier_machine.specs.SignedRequests.{RefusesInAscii}
-use Rattle.glacier_machine.proofs.AskLemmas.{asked_is_in_order, asked_is_bulk, asked_is_plain}
+use Rattle.glacier_machine.proofs.AskLemmas.{asked_has_size, asked_is_in_order, asked_is_bulk}
 use Rattle.glacier_machine.proofs.RefusalLemmas.{refused_ascii}
 use Rattle.glacier_machine.proofs.RequestLemmas.{kept_is_enough}
 use Rattle.glacier_machine.proofs.signed_requests.read_request.Goals as goal
@@ -38,9 +38,9 @@ returns-clause-bulk c =
     (asked_is_bulk c.args.config.now c.args.head.now c.args.content_length c.args.body.now c.args.reading))
     c.read.ensures
 
-pub returns-clause-plain : goal.returns-clause-plain
-returns-clause-plain c =
+pub returns-clause-size : goal.returns-clause-size
+returns-clause-size c =
     IfOk-weaker c.read.result _ _
-    (λ r same. subst (λ q. IfOk q (λ request. IfOk request.asked IsPlain)) (sym same)
-    (asked_is_plain c.args.config.now c.args.head.now c.args.content_length c.args.body.now c.args.reading))
+    (λ r same. subst (λ q. IfOk q (λ request. IfOk request.asked (HasSize c.args.content_length))) (sym same)
+    (asked_has_size c.args.config.now c.args.head.now c.args.content_length c.args.body.now c.args.reading))
     c.read.ensures
