@@ -1,5 +1,5 @@
--- An account's state is taken out of the store, and put back.
-use Rattle.std.specs.Prelude.{◌≡◌, ℕ, Bool, true, false, cond, List, Option, Some, None, unwrap_or}
+-- An account's state is taken out of the store, and put back; one that was never changed has no vault.
+use Rattle.std.specs.Prelude.{◌≡◌, ℕ, Bool, true, false, cond, not, nat_lt, List, Option, Some, None, unwrap_or}
 use Rattle.std.specs.Cmp.Lexicographic.{nat_list_cmp_total, slice_cmp}
 use Rattle.std.specs.FinMap as map
 use Rattle.std.specs.Option.{is_some}
@@ -7,7 +7,12 @@ use Rattle.std.specs.Ordering.{eq_by_cmp, nat_cmp}
 use Rattle.std.proofs.Common.{◌∙◌, ap, sym, refl}
 use Rattle.glacier_base.proofs.Finite.{bytes_cmp-IsAntisymmetric}
 use Rattle.glacier_base.proofs.Sorted.{tied}
+use Rattle.glacier_upload.specs.Bodies.{room_refusal}
+use Rattle.glacier_upload.specs.Single.{upload_refusal}
+use Rattle.glacier_upload.specs.declared.asks.UploadAsk.{UploadAsk}
+use Rattle.glacier_upload.specs.declared.single.TheConstants.{MOST_BYTES}
 use Rattle.glacier_vault.specs.Account.{empty_account}
+use Rattle.glacier_vault.specs.declared.refusal.Refusal.TheVariants.{NoVault, Empty, TooLarge}
 use Rattle.glacier_vault.specs.declared.state.AccountState.{AccountState}
 use Rattle.glacier_vault.specs.Accounts.{Accounts}
 
@@ -54,3 +59,10 @@ pub put_back : (accounts : Accounts) (k : List ℕ) (r : Option AccountState) �
     ≡ accounts
 put_back accounts k None e = take_none accounts k e
 put_back accounts k (Some state) e = put_over accounts k state ∙ put_same accounts k state e
+
+-- an upload to an account that was never changed is refused, since it has no vault
+pub no_vault : (quota : ℕ) (ask : UploadAsk) → upload_refusal quota empty_account ask ≡ Some (NoVault ask.vault)
+no_vault quota ask =
+    ap (λ (there : Bool). cond (not there) (Some (NoVault ask.vault)) (cond (nat_lt ask.size 1) (Some Empty)
+    (cond (nat_lt MOST_BYTES ask.size) (Some (TooLarge ask.size MOST_BYTES)) (room_refusal quota empty_account ask.size))))
+    (ap is_some (map.get-empty (slice_cmp nat_cmp) ask.vault))

@@ -13,4 +13,5 @@ pub mod RoomLemmas
 pub mod RowLemmas
 pub mod StepLemmas
 pub mod StreamLemmas
+pub mod StretchLemmas
 pub mod UploadLemmas

@@ -93,7 +93,7 @@ step_made rules m (JobOutput name job range) body before time lawful order plain
     subst (λ (c : Change). IsMadeBy before m c before) (sym (output_changes_nothing before name range [] (found_job before name job))) refl
 
 -- and it stores no byte
-plain_stores_none : (rules : Rules) (m : ℕ) (action : Action) (body : List ℕ) (before : AccountState) → stores_body action ≡ false → (step_of rules m action body before).stored ≡ []
+pub plain_stores_none : (rules : Rules) (m : ℕ) (action : Action) (body : List ℕ) (before : AccountState) → stores_body action ≡ false → (step_of rules m action body before).stored ≡ []
 plain_stores_none rules m (CreateVault name) body before plain = row_stores_none before (create_row before m name) _
 plain_stores_none rules m (DescribeVault name) body before plain = look_stores_none before (found before name) (described rules name)
 plain_stores_none rules m (DeleteVault name) body before plain = row_stores_none before (delete_row before m name) _

@@ -1,5 +1,5 @@
 -- The bytes of the outputs of jobs.
-use Rattle.std.specs.Prelude.{ℕ, ◌-◌, List, [], Option, Some, None, take, drop}
+use Rattle.std.specs.Prelude.{◌≡◌, ◌≤◌, ℕ, ◌-◌, List, [], Option, Some, None, take, drop}
 use Rattle.glacier_bodies.specs.BlobAreas.{bytes_of}
 use Rattle.glacier_machine.specs.JobSteps.{stored_archive}
 use Rattle.glacier_machine.specs.declared.action.Stretch.{Stretch}
@@ -21,6 +21,12 @@ abbrev pub stretch_bytes : State → List ℕ → Stretch → List ℕ
 stretch_bytes state account stretch =
     take (stretch.end - stretch.first)
     (drop stretch.first (archive_bytes state account (archive_in state.accounts account stretch)))
+
+-- the archive of a stretch is there, live or held, with all the bytes of the stretch
+pub record HasStretch (accounts : Accounts) (account : List ℕ) (stretch : Stretch) : Type 0 where
+  pub archive : Archive
+  pub there : archive_in accounts account stretch ≡ Some archive
+  pub within : stretch.end ≤ archive.size
 
 -- another stretch of the same archive
 abbrev pub between : Stretch → ℕ → ℕ → Stretch

@@ -1,9 +1,10 @@
 // What is asked of an account of a store.
-ghost use Rattle.std.specs.Prelude.{◌≡◌, ◌≤◌, [], true, false, IsTrue, IfOk};
+ghost use Rattle.std.specs.Prelude.{◌≡◌, ◌≤◌, [], true, false, IsTrue, IfOk, IfSome};
 ghost use Rattle.glacier_machine.specs.AccountSteps.{step_of};
-ghost use Rattle.glacier_machine.specs.Actions.{HasOrder, stores_body};
+ghost use Rattle.glacier_machine.specs.Actions.{HasOrder, HasShortOutput, stores_body};
 ghost use Rattle.glacier_vault.specs.Accounts.{account_in};
 ghost use Rattle.glacier_store.specs.Calls.{StoreCall};
+ghost use Rattle.glacier_store.specs.Outputs.{HasStretch};
 ghost use Rattle.glacier_store.specs.Steps.{Advances, Grows, accounts_after, action_events, store_left, room_of};
 
 use crate::changed::{acted, keep_change};
@@ -34,6 +35,9 @@ impl Store {
 
         ensures answer { IfOk result (λ done. done.1 ≡
             (step_of rules.now m action.now [] (account_in self.accounts rules.now.account)).answer) }
+        ensures short { IfOk result (λ done. HasShortOutput action.now done.1.reply) }
+        ensures output { IfOk result (λ done. IfSome done.1.stretch
+            (HasStretch done.0.accounts rules.now.account)) }
         ensures accounts { IfOk result (λ done. done.0.accounts ≡
             accounts_after self.accounts (action_events rules.now m action.now [] self.accounts)) }
 

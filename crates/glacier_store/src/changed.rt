@@ -3,13 +3,14 @@ ghost use Rattle.std.specs.Prelude.{◌≡◌, ◌≤◌, ◌||◌, [], None, tr
 ghost use Rattle.std.specs.Option.{is_some};
 ghost use Rattle.glacier_disk.specs.Moments.{Looks};
 ghost use Rattle.glacier_machine.specs.AccountSteps.{step_of};
-ghost use Rattle.glacier_machine.specs.Actions.{HasOrder, stores_body};
+ghost use Rattle.glacier_machine.specs.Actions.{HasOrder, HasShortOutput, stores_body};
 ghost use Rattle.glacier_machine.specs.Moments.{moment_change};
 ghost use Rattle.glacier_vault.specs.Accounts.{account_in};
 ghost use Rattle.glacier_replay.specs.Changes.{State, after_all, body_in};
 ghost use Rattle.glacier_replay.specs.Replayed.{replayed};
 ghost use Rattle.glacier_vault.specs.declared.state.AccountState.{AccountState as StateOf};
 ghost use Rattle.glacier_store.specs.Calls.{Commits, StoreCall};
+ghost use Rattle.glacier_store.specs.Outputs.{HasStretch};
 ghost use Rattle.glacier_store.specs.Steps.{Grows, IsChangeOf, change_events, room_of};
 
 use crate::{Store, StoreFault};
@@ -41,6 +42,9 @@ pub(crate) fn acted(
     requires order { HasOrder action.now }
     ensures answer { IfOk result (λ answer. answer ≡
         (step_of rules.now m action.now [] (account_in accounts.old rules.now.account)).answer) }
+    ensures short { IfOk result (λ answer. HasShortOutput action.now answer.reply) }
+    ensures output { IfOk result (λ answer.
+        IfSome answer.stretch (HasStretch accounts.new rules.now.account)) }
     ensures accounts { IfOk result (λ answer.
         IsChangeOf accounts.old accounts.new rules.now.account m answer.change) }
 {

@@ -1,6 +1,7 @@
 //! The state of all accounts with the bodies of their archives and parts, kept on a disk.
 #![tactic(auto)]
 
+mod admitting;
 mod applying;
 mod changed;
 mod committing;

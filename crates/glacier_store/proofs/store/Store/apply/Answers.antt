@@ -1,7 +1,8 @@
-use Rattle.std.proofs.Common.{None, List, [], ◌∙◌, ◌≡◌, rules, Err, Ok, ap, subst}
-use Rattle.std.specs.Prelude.{Result}
+use Rattle.std.proofs.Common.{None, List, [], ◌∙◌, ◌≡◌, rules, Err, Ok, ap, sym, subst}
+use Rattle.std.specs.Prelude.{IfSome, Result}
 use Rattle.glacier_machine.specs.declared.action.Answer.{Answer}
-use Rattle.glacier_vault.specs.Accounts.{AccountEvent}
+use Rattle.glacier_vault.specs.Accounts.{AccountEvent, Accounts}
+use Rattle.glacier_store.specs.Outputs.{HasStretch}
 use Rattle.glacier_store.specs.Steps.{Advances, Grows, accounts_after, action_events, room_of, store_left}
 use Rattle.glacier_store.specs.declared.fault.StoreFault.{StoreFault}
 use Rattle.glacier_store.specs.declared.fault.StoreFault.TheVariants.{Memory}
@@ -64,3 +65,8 @@ returns-in-Ok-clause-accounts g c =
     ∙ after_change None c.args.self.accounts c.acted.new.accounts c.args.rules.now.account c.args.m change.event change.freed [] c.in_ok-answer.ensures.accounts
     ∙ ap (accounts_after c.args.self.accounts)
     (plain_events c.args.rules.now c.args.m c.args.action.now c.args.self.accounts c.in_ok-answer.answer c.requires.plain c.in_ok-answer.ensures.answer)
+
+pub returns-in-Ok-clause-output : goal.returns-in-Ok-clause-output
+returns-in-Ok-clause-output g c =
+    subst (λ (all : Accounts). IfSome c.in_ok-answer.answer.stretch (HasStretch all c.args.rules.now.account))
+    (sym c.in-Ok.ensures.accounts) c.in_ok-answer.ensures.output
