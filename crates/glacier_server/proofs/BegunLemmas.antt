@@ -1,5 +1,5 @@
 -- What is done for a good head before its body is whole.
-use Rattle.std.proofs.Common.{◌≡◌, ℕ, ◌+◌, Bool, List, [], ◌++◌, length, take, drop, inl, inr, arith, append-nil, Some, sym, ap, subst, refl, ◌∙◌}
+use Rattle.std.proofs.Common.{◌≡◌, ℕ, ◌+◌, Bool, false, List, [], ◌++◌, length, take, drop, inl, inr, arith, append-nil, Some, sym, ap, subst, refl, ◌∙◌}
 use Rattle.std.specs.Prelude.{Option, min, unwrap_or}
 use Rattle.std.proofs.lemmas.Bool.{cases_lt}
 use Rattle.std.proofs.lemmas.List.{take_min, take-append-le, take-map}
@@ -19,14 +19,14 @@ use Rattle.glacier_http.specs.Step.{IsStep}
 use Rattle.glacier_http.proofs.OpeningLemmas.{head_once}
 use Rattle.glacier_machine.specs.declared.config.Config.{Config}
 use Rattle.glacier_server.specs.Acts.{Act, send, sends, keeps}
-use Rattle.glacier_server.specs.Begun.{HasBegun}
+use Rattle.glacier_server.specs.Begun.{HasBegun, HasPassed, HasRead, IsBulkAt}
 use Rattle.glacier_server.specs.declared.end.End.TheVariants.{SendFault}
 use Rattle.glacier_server.specs.Does.{nothing}
 use Rattle.glacier_server.specs.Exchange.{Standing, AnswersPart, Exchanges, exchange_on}
 use Rattle.glacier_server.specs.Machine.{begun_events}
 use Rattle.glacier_server.specs.Out.{begin_acts, further_acts}
 use Rattle.glacier_server.specs.Placed.{Placed}
-use Rattle.glacier_server.specs.Session.{answering, reading, acting}
+use Rattle.glacier_server.specs.Session.{answering, acting}
 use Rattle.glacier_server.specs.Turns.{Turn, IsNext, begun, whole, turn_acts}
 use Rattle.glacier_server.specs.Transfer.{Transfer, SentAll, SentPart, current}
 use Rattle.glacier_server.proofs.AnswerLemmas.{h, behind, begin, begins, begins_head, begins_more, body, none_whole}
@@ -98,16 +98,16 @@ module _ (config : Config) (from : Standing) (headers : List HeaderSpan) (spans 
 -- the events that are kept at a head were kept
 module _ (config : Config) (from : Standing) {headers : List HeaderSpan} (spans : HeadSpans)
     (is : IsStep from.unread headers (step.Head spans)) {a b : Told} {r : ℕ} (now : Placed)
-    (kept : (g : RequestHead) (behind : List ℕ) → BeginsHead from.unread g behind
-    → Transfer a b (answering from.placed now [] (keeps (begun_events config from.placed.state g r)) r []) nothing) where
+    (passed : HasPassed config from now r a b) where
   -- the interim line was sent
   pub has_begun : {c : Told} → SentAll b c (interim_text spans.expect spans.content_length) → HasBegun config from now r a c
   has_begun sent = record {
     transfer = λ g behind begins.
         acts_then (answering from.placed now [] (keeps (begun_events config from.placed.state g r)) r []) now
-        (sends (interim_of g)) (kept g behind begins)
+        (sends (interim_of g)) (passed.transfer g behind begins)
         (says (acting now now (sends (interim_text spans.expect spans.content_length))) (sends (interim_of g))
         (ap sends (interim_is from.unread headers spans is g behind begins)) (sent now));
+    kept = (sent now).does.kept passed.kept;
   }
 
   -- or a first part of it
@@ -130,15 +130,17 @@ module _ (config : Config) (from : Standing) {headers : List HeaderSpan} (spans 
             ∙ ap (λ (l : List Act). events ++ l) (sym (take-map send n (interim_of g)))
             ∙ sym (take-append-add events (sends (interim_of g)) n))
             (acts_then (answering from.placed now [] events r []) now
-            (sends (take n (interim_text spans.expect spans.content_length))) (kept g _ begins) (sent now));
+            (sends (take n (interim_text spans.expect spans.content_length))) (passed.transfer g _ begins) (sent now));
         exchange = begun_part config from headers spans _ _ r is extends k to.unread (current c.connections).coming now;
         idle = All-nil _;
       }
 
--- for a head of which no event is kept, a reading was taken
-pub none_kept : (config : Config) (from : Standing) {a b : Told} {r : ℕ} → Transfer a b (reading from.placed r) nothing
-    → (g : RequestHead) (behind : List ℕ) → BeginsHead from.unread g behind
-    → Transfer a b (answering from.placed from.placed [] (keeps (begun_events config from.placed.state g r)) r []) nothing
-none_kept config from {a = a} {b = b} {r = r} read g _ begins =
-    subst (λ (l : List AccountEvent). Transfer a b (answering from.placed from.placed [] (keeps l) r []) nothing)
-    (sym (none_begun config from.placed.state g r)) read
+-- of a head at which no event is kept, a reading was taken
+pub plain_passed : (config : Config) (from : Standing) {a b : Told} {r : ℕ} → IsBulkAt from.unread false
+    → HasRead from.placed r a b → HasPassed config from from.placed r a b
+plain_passed config from {a = a} {b = b} {r = r} plain read = record {
+  transfer = λ g behind begins.
+      subst (λ (l : List AccountEvent). Transfer a b (answering from.placed from.placed [] (keeps l) r []) nothing)
+      (sym (none_begun config from.placed.state g r (plain g behind (begins.head, begins.opening.parts)))) read.transfer;
+  kept = read.kept;
+}

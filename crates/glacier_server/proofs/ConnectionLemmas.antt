@@ -18,7 +18,7 @@ use Rattle.glacier_server.proofs.RunLemmas.{SoFar, goes_on, stops, breaks, broke
 use Rattle.glacier_server.proofs.RunLemmas as run
 use Rattle.glacier_server.proofs.SessionLemmas.{joined, held_then}
 use Rattle.glacier_server.proofs.TransferLemmas.{stays, then, moved, breaks_off}
-use Rattle.glacier_server.specs.Placed.{Agrees, Placed}
+use Rattle.glacier_server.specs.Placed.{IsKept, Placed}
 
 -- as many messages were answered on the last connection as it stands behind
 pub record SoFarLast (config : Config) (old new : Told) (placed : Placed) (at : Standing) : Type 0 where
@@ -55,9 +55,10 @@ module _ {config : Config} {a : Told} {placed : Placed} where
     leads : (t : Session) → t.before ≡ from.placed → t.before ≡ x.session.after
     leads t starts = starts ∙ x.so_far.placed
 
-    -- the state has the accounts of the store still
-    pub agrees_now : Agrees placed → Agrees from.placed
-    agrees_now same = subst Agrees (sym x.so_far.placed) (x.transfer.does.agrees (subst Agrees (sym x.starts) same))
+    -- the store is kept still
+    pub kept_now : IsKept a placed → IsKept b from.placed
+    kept_now kept =
+        subst (IsKept b) (sym x.so_far.placed) (x.transfer.does.kept (subst (IsKept a) (sym x.starts) kept))
 
     -- at each wait of an exchange, all was done that was due
     prompt_then : (t : Session) → t.before ≡ from.placed

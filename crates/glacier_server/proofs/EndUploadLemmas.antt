@@ -21,7 +21,8 @@ use Rattle.glacier_vault.specs.declared.rules.Rules.{Rules}
 use Rattle.glacier_server.specs.declared.end.ServeFault.{ServeFault}
 use Rattle.glacier_server.specs.declared.end.ServeFault.TheVariants.{Memory, JournalEnd}
 use Rattle.glacier_server.specs.Events.{IsCallFault, IsFault}
-use Rattle.glacier_server.specs.UploadCalls.{EndsUpload, GrewWith, HasNoRoomWith}
+use Rattle.glacier_server.specs.Rooms.{GrewBy, HasNoRoom}
+use Rattle.glacier_server.specs.UploadCalls.{EndsUpload}
 use Rattle.glacier_server.proofs.StoreCallLemmas.{changes_first, is_end, is_memory, stays_first}
 use Rattle.glacier_server.proofs.UploadRooms.{archive_events, grew_with, no_room_with}
 
@@ -50,7 +51,7 @@ module _ {old new : Told} (store : Store) (rules : Rules) (m : ℕ) (ask : Uploa
       → EndsUpload old new store own (action_events rules m (action.Upload ask) body store.accounts) (Ok (answer.reply, after))
   ended after answer done ends grows = record {
     accounts = done.accounts;
-    grew = subst (λ (l : List AccountEvent). GrewWith store.journal.length after.journal.length l) (sym (told_by store rules m ask body))
+    grew = subst (λ (l : List AccountEvent). GrewBy store.journal.length after.journal.length l) (sym (told_by store rules m ask body))
         (grew_with own rules.account m body some blocks store.journal.length after.journal.length (event_of store rules m ask body)
         (subst (λ (l : List AccountEvent). after.journal.length ≡ store.journal.length + room_with own l) (told_by store rules m ask body) grows.longer));
     any_moment = λ state held. changes_first state (action_events rules m (action.Upload ask) body store.accounts) (ends.any_moment state held);
@@ -75,7 +76,7 @@ module _ {old new : Told} (store : Store) (rules : Rules) (m : ℕ) (ask : Uploa
         let at : other ≡ JournalEnd length = cc in
         let why = ap Err (is_end fault other length is at) in (
           (grows.end length why).0,
-          subst (λ (l : List AccountEvent). HasNoRoomWith length l) (sym (told_by store rules m ask body))
+          subst (λ (l : List AccountEvent). HasNoRoom length l) (sym (told_by store rules m ask body))
               (no_room_with own rules.account m body some blocks length (event_of store rules m ask body)
               (subst (λ (l : List AccountEvent). 2 ^ 62 < length + room_with own l) (told_by store rules m ask body) (grows.end length why).1)
               (subst (λ (l : List AccountEvent). 0 < room_with own l) (told_by store rules m ask body) (grows.some length why))),

@@ -19,7 +19,7 @@ use Rattle.glacier_server.specs.Transfer.{TakenAt, TakesBehind, NoneComing, curr
 use Rattle.glacier_server.specs.Does.{Failing, nothing, receiving}
 use Rattle.glacier_server.proofs.SessionLemmas.{joined, all_more, same_wait, held_then}
 use Rattle.glacier_server.proofs.TransferLemmas.{then, moved, fails_as}
-use Rattle.glacier_server.specs.Placed.{Placed}
+use Rattle.glacier_server.specs.Placed.{IsKept, Placed}
 
 -- no head is there yet
 need : (config : Config) (from : Standing) (left coming got : List ℕ) (waits : List Wait) → HasNoOpening (from.unread ++ got)
@@ -80,6 +80,11 @@ module _ {config : Config} {n : ℕ} {a b : Told} {unread now : List ℕ} {place
         (subst HasNoOpening found.behind none);
     idle = idle config n placed found;
   }
+
+-- the store is kept still
+pub kept_behind : {a b : Told} {unread now : List ℕ} {placed : Placed} → TakesBehind a b unread now HasNoOpening nothing
+    → IsKept a placed → IsKept b placed
+kept_behind {placed = placed} found kept = (found.takes.transfer placed).does.kept kept
 
 -- an exchange of what is unread then
 module _ {n : ℕ} {a b : Told} {unread now : List ℕ} {placed : Placed}

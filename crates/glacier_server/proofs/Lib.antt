@@ -1,7 +1,9 @@
 mod AcceptedLemmas
 mod ActLemmas
+mod AdmissionLemmas
 mod AllSentLemmas
 mod AnswerLemmas
+mod AnsweredLemmas
 mod BegunLemmas
 mod BodyLemmas
 mod CameLemmas
@@ -9,6 +11,7 @@ mod CommitLemmas
 mod ConnectionLemmas
 mod CutLemmas
 mod DoesLemmas
+mod DoneLemmas
 mod EndLemmas
 mod EndUploadLemmas
 mod EventLemmas
@@ -23,6 +26,8 @@ mod ListLemmas
 mod MessageLemmas
 mod OutLemmas
 mod OutputLemmas
+mod PassLemmas
+mod PassedLemmas
 mod PieceLemmas
 mod PiecesLemmas
 mod RefuseLemmas
@@ -31,6 +36,7 @@ mod RoomLemmas
 mod RunLemmas
 mod RunOneLemmas
 mod SendLemmas
+mod SentLemmas
 mod ServingLemmas
 mod SessionLemmas
 mod StepLemmas
@@ -38,6 +44,8 @@ mod StopLemmas
 mod StoreCallLemmas
 mod StreamLemmas
 mod TransferLemmas
+mod UploadEnds
+mod UploadExchanges
 mod UploadLemmas
 mod UploadReplies
 mod UploadRooms

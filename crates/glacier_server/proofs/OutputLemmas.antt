@@ -1,6 +1,6 @@
 -- An output is sent in pieces, which are read before they are sent.
 use Rattle.std.proofs.Common.{◌≡◌, ℕ, ◌+◌, ◌-◌, ◌<◌, ◌≤◌, true, List, [], ◌++◌, length, take, drop, refl, sym, ap, subst, ◌∙◌, arith, append-nil, length-append}
-use Rattle.std.specs.Prelude.{min, Result, Ok, Err}
+use Rattle.std.specs.Prelude.{min, Option, Some, Result, Ok, Err}
 use Rattle.std.proofs.Math.Seq.{take-add, take-append-add}
 use Rattle.std.proofs.lemmas.List.{length-take, length-drop, take_min, take_all, take-append-drop}
 use Rattle.glacier_bodies.proofs.ReadLemmas.{rests_start, rests_on}
@@ -8,13 +8,16 @@ use Rattle.glacier_disk.specs.Calls.{Rests, SendCall}
 use Rattle.glacier_disk.specs.Moments.{started, goes_on}
 use Rattle.glacier_disk.specs.Time.{rests-elapses}
 use Rattle.glacier_disk.specs.Told.{Told, Lawful, ByDisk}
-use Rattle.glacier_machine.specs.declared.action.Stretch.{Stretch}
+use Rattle.glacier_bodies.specs.BlobAreas.{bytes_of}
+use Rattle.glacier_machine.specs.JobSteps.{stored_archive}
+use Rattle.glacier_machine.specs.declared.action.Output.{Output}
 use Rattle.glacier_replay.specs.Changes.{State}
 use Rattle.glacier_server.specs.declared.output_sender.OutputFault.{OutputFault}
-use Rattle.glacier_server.specs.declared.output_sender.OutputFault.TheVariants.{Send, Disk, Short}
+use Rattle.glacier_server.specs.declared.output_sender.OutputFault.TheVariants.{Send, Disk}
 use Rattle.glacier_server.specs.Does.{Failing, nothing, sending, breaking}
 use Rattle.glacier_server.specs.Events.{StandsForFirst, KeepsFirst}
-use Rattle.glacier_server.specs.Outputs.{IsHeldIn, OnlySends, SendsOutput, SendsPiece, promised}
+use Rattle.glacier_server.specs.Outputs.{IsHeldIn, IsThere, OnlySends, SendsAnswer, SendsOutput, SendsPiece, SentBy}
+use Rattle.glacier_server.specs.Texts.{promised}
 use Rattle.glacier_server.specs.Placed.{IsKept, Placed}
 use Rattle.glacier_server.specs.Transfer.{SentAll, SentPart}
 use Rattle.glacier_server.proofs.KeepLemmas.{keeps_self, keeps_then, keeps_disk, keeps_broken}
@@ -23,7 +26,11 @@ use Rattle.glacier_server.proofs.RoomLemmas.{grew_none}
 use Rattle.glacier_server.proofs.SendLemmas.{sent_then, part_then, part_front}
 use Rattle.glacier_server.proofs.StepLemmas.{keeps_all}
 use Rattle.glacier_server.proofs.TransferLemmas.{stays}
-use Rattle.glacier_store.proofs.KeptLemmas.{held_rests}
+use Rattle.glacier_replay.specs.Standing.{IsTold}
+use Rattle.glacier_vault.specs.Accounts.{Accounts, account_in}
+use Rattle.glacier_vault.specs.declared.archive.Archive.{Archive}
+use Rattle.glacier_store.proofs.KeptLemmas.{held_rests, kept_stands}
+use Rattle.glacier_store.proofs.OutputLemmas.{of_stored}
 use Rattle.glacier_store.specs.Outputs.{archive_bytes, archive_in, stretch_bytes}
 use Rattle.glacier_store.specs.declared.store.Store.{Store}
 
@@ -34,6 +41,10 @@ still_held {old = old} {new = new} {store = store} {state = state} rests held = 
   accounts = held.accounts;
   held = held_rests old new store.journal store.area.blobs state rests.crash held.held;
 }
+
+-- and it is where it is kept
+pub held_in : {told : Told} {placed : Placed} → IsKept told placed → IsHeldIn told placed.store placed.state
+held_in kept = record { accounts = sym kept.accounts; held = kept.held }
 
 -- calls of the disk that change nothing send nothing
 none_kept : {old new : Told} (placed : Placed) → Lawful old → Rests old new → IsKept old placed
@@ -120,9 +131,6 @@ module _ {old mid : Told} (none : SentAll old mid []) (n most : ℕ) (into bytes
   pub piece_part : (new : Told) → SentPart mid new (take n into) → SendsPiece old new (take most bytes) (Err Send)
   piece_part new sent = subst (λ (l : List ℕ). SentPart old new l) read (part_then [] (take n into) none sent)
 
-  pub piece_short : n ≡ 0 → SendsPiece old mid (take most bytes) (Err Short)
-  piece_short zero = (sym read ∙ ap (λ (k : ℕ). take k into) zero, none)
-
 -- the first k bytes went out, of as many at least
 pub record SentFirst (old new : Told) (bytes : List ℕ) (k : ℕ) : Type 0 where
   pub there : k ≤ length bytes
@@ -157,64 +165,69 @@ none_behind {a = a} c bytes k first none = subst (λ (l : List ℕ). SentAll a c
     (sent_then (take k bytes) [] first.sent none)
 
 -- or why it wasn't
-pub first_failed : {T : Type 0} {a b c : Told} (bytes : List ℕ) (k most count : ℕ) → SentFirst a b bytes k → k < count
-    → 0 < most → (fault : OutputFault) → SendsPiece b c (take most (drop k bytes)) (Err fault)
-    → SendsOutput {T = T} a c [] bytes count (Err fault)
-first_failed {a = a} {c = c} bytes k most count first below some Send part =
+pub first_failed : {T : Type 0} {a b c : Told} (bytes : List ℕ) (k most count : ℕ) → length bytes ≡ count
+    → SentFirst a b bytes k → k < count → (fault : OutputFault)
+    → SendsPiece b c (take most (drop k bytes)) (Err fault) → SendsOutput {T = T} a c [] bytes count (Err fault)
+first_failed {a = a} {c = c} bytes k most count whole first below Send part =
     let n : ℕ = length (take most (drop k bytes)) in
     record {
+      whole = omega (arith, whole);
       sent = subst (λ (l : List ℕ). SentPart a c l) (take-append-drop (k + n) bytes)
           (part_front (take (k + n) bytes) (drop (k + n) bytes)
           (subst (λ (l : List ℕ). SentPart a c l) (joined bytes k most n refl)
           (part_then (take k bytes) (take most (drop k bytes)) first.sent part)));
-      shows = tt;
     }
-first_failed {c = c} bytes k most count first below some Disk none = record {
+first_failed {c = c} bytes k most count whole first below Disk none = record {
+  whole = omega (arith, whole);
   sent = record { till = k; head_sent = omega arith; below = omega (arith, below); sent = none_behind c bytes k first none };
-  shows = tt;
 }
-first_failed {a = a} {c = c} bytes k most count first below some Short none =
-    let all : length bytes ≡ k = omega (arith, ap length none.0, piece_size bytes k most, some, first.there) in
-    record {
-      sent = subst (λ (l : List ℕ). SentAll a c l) (take_all k bytes (omega (arith, all))) (none_behind c bytes k first none.1);
-      shows = omega (arith, all, below);
-    }
 
 -- all of them are sent
-pub first_all : {T : Type 0} {a b : Told} {x : T} (bytes : List ℕ) (k count : ℕ) → SentFirst a b bytes k → k ≡ count
-    → length bytes ≤ count → SendsOutput {T = T} a b [] bytes count (Ok x)
-first_all {a = a} {b = b} bytes k count first is few = record {
-  sent = subst (λ (l : List ℕ). SentAll a b l) (take_all k bytes (omega (arith, is, few))) first.sent;
-  shows = omega (arith, is, few, first.there);
+pub first_all : {T : Type 0} {a b : Told} {x : T} (bytes : List ℕ) (k count : ℕ) → length bytes ≡ count
+    → SentFirst a b bytes k → k ≡ count → SendsOutput {T = T} a b [] bytes count (Ok x)
+first_all {a = a} {b = b} bytes k count whole first is = record {
+  whole = omega (arith, whole);
+  sent = subst (λ (l : List ℕ). SentAll a b l) (take_all k bytes (omega (arith, is, whole))) first.sent;
 }
 
-pub few_bytes : (state : State) (account : List ℕ) (stretch : Stretch)
-    → length (stretch_bytes state account stretch) ≤ promised stretch
-few_bytes state account stretch = omega (
-  arith,
-  length-take (promised stretch) (drop stretch.first
-      (archive_bytes state account (archive_in state.accounts account stretch))),
-)
+-- the bytes of an output that is there are as many as its head promises
+pub whole_output : {told : Told} {store : Store} {state : State} → Lawful told → IsHeldIn told store state
+    → (output : Output) → IsThere store.accounts output
+    → length (stretch_bytes state output.account output.stretch) ≡ promised output.stretch
+whole_output {told = told} {store = store} {state = state} law held output there =
+    let stretch = output.stretch in
+    let stands = kept_stands told store.journal store.area.blobs state held.held told.reads law.reads_left in
+    let at : archive_in state.accounts output.account stretch ≡ Some there.archive =
+    ap (λ (a : Accounts). archive_in a output.account stretch) held.accounts ∙ there.there in
+    let is : IsTold state.bodies output.account there.archive.size there.archive.leaves there.archive.blobs =
+    of_stored (IsTold state.bodies output.account) (account_in state.accounts output.account) stretch.vault stretch.archive
+    there.archive (stands.state_is.tells.told output.account) at in
+    let bytes : List ℕ = bytes_of state.bodies output.account there.archive.blobs in
+    ap (λ (found : Option Archive). length (take (promised stretch) (drop stretch.first (archive_bytes state output.account found)))) at
+    ∙ omega (arith, length-take (promised stretch) (drop stretch.first bytes), length-drop stretch.first bytes, there.within, is.size_is)
 
 -- and all behind a head
 pub behind_head : {T : Type 0} {a b c : Told} (head bytes : List ℕ) (count : ℕ) (result : Result T OutputFault)
     → SentAll a b head → SendsOutput b c [] bytes count result → SendsOutput a c head (head ++ bytes) count result
-behind_head head bytes count (Ok x) first more = record {
-  sent = sent_then head bytes first more.sent;
-  shows = omega (arith, length-append head bytes, more.shows);
+behind_head {T = T} {a = a} {b = b} {c = c} head bytes count result first more = record {
+  whole = omega (arith, length-append head bytes, more.whole);
+  sent = by_result result more.sent;
 }
-behind_head head bytes count (Err Send) first more = record { sent = part_then head bytes first more.sent; shows = tt }
-behind_head {a = a} {c = c} head bytes count (Err Disk) first more =
-    let till = more.sent in record {
-      sent = record {
-        till = length head + till.till;
-        head_sent = omega arith;
-        below = omega (arith, till.below);
-        sent = subst (λ (l : List ℕ). SentAll a c l) (sym (take-append-add head bytes till.till)) (sent_then head (take till.till bytes) first till.sent);
-      };
-      shows = tt;
+  where
+    by_result : (r : Result T OutputFault) → SentBy b c [] bytes count r → SentBy a c head (head ++ bytes) count r
+    by_result (Ok x) sent = sent_then head bytes first sent
+    by_result (Err Send) sent = part_then head bytes first sent
+    by_result (Err Disk) till = record {
+      till = length head + till.till;
+      head_sent = omega arith;
+      below = omega (arith, till.below);
+      sent = subst (λ (l : List ℕ). SentAll a c l) (sym (take-append-add head bytes till.till)) (sent_then head (take till.till bytes) first till.sent);
     }
-behind_head head bytes count (Err Short) first more = record {
-  sent = sent_then head bytes first more.sent;
-  shows = omega (arith, length-append head bytes, more.shows);
-}
+
+-- the text of an answer that has its body in an output
+pub sends_answer : {T : Type 0} {a b : Told} (output : Output) (head text : List ℕ) (count : ℕ) (result : Result T OutputFault)
+    → SendsOutput a b head text count result → SendsAnswer a b (Some output) text result
+sends_answer output head text count (Ok x) sends = sends.sent
+sends_answer output head text count (Err Send) sends = sends.sent
+sends_answer output head text count (Err Disk) sends =
+    let till = sends.sent in (output, refl, till.till, omega (arith, till.below, sends.whole), till.sent)

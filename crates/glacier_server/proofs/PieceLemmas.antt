@@ -1,6 +1,7 @@
 -- A piece of a body that streams: what was taken into the buffer, and what is written of it.
-use Rattle.std.proofs.Common.{◌≡◌, ℕ, ◌+◌, ◌*◌, ◌<◌, ◌≤◌, min, List, ◌++◌, length, take, sym, ap, subst, ◌∙◌, arith, length-append}
+use Rattle.std.proofs.Common.{◌≡◌, ℕ, ◌+◌, ◌*◌, ◌%◌, ◌<◌, ◌≤◌, min, List, ◌++◌, length, take, refl, sym, ap, subst, ◌∙◌, arith, length-append}
 use Rattle.std.proofs.lemmas.List.{length-take-le, take_all, take-append-le}
+use Rattle.std.proofs.lemmas.Bool.{leb-true}
 use Rattle.glacier_bodies.specs.Blobs.{Holds}
 use Rattle.glacier_bodies.specs.Bodies.{HasTaken, Takes as BodyTakes, body_runs}
 use Rattle.glacier_bodies.specs.declared.body.Body.{Body}
@@ -8,14 +9,28 @@ use Rattle.glacier_disk.specs.declared.area.Area.TheVariants.{Blobs}
 use Rattle.glacier_disk.specs.Image.{Image}
 use Rattle.glacier_disk.specs.Network.{wait_of}
 use Rattle.glacier_disk.specs.Told.{Told, Lawful, ByDisk}
+use Rattle.glacier_extents.specs.Places.{block_size}
 use Rattle.glacier_extents.specs.declared.run.Run.{Run}
+use Rattle.glacier_http.specs.declared.limits.TheConstants.{MOST_HEAD}
 use Rattle.glacier_store.specs.Calls.{KeepsHeld}
 use Rattle.glacier_store.specs.declared.store.Store.{Store}
+use Rattle.glacier_server.specs.declared.buffers.TheConstants.{PIECE}
 use Rattle.glacier_server.specs.Does.{Failing, nothing, breaking}
-use Rattle.glacier_server.specs.Streams.{HasWritten, IsMissing, IsUnwritten, Stream, Streams, StreamsPart, TakesOver, Written, stream_of}
+use Rattle.glacier_server.specs.Streams.{HasWritten, IsMissing, IsPieceFor, IsUnwritten, Stream, Streams, StreamsPart, TakesOver, Written, stream_of}
 use Rattle.glacier_server.specs.Transfer.{TakenAt, TakesBehind, current}
 use Rattle.glacier_server.proofs.SessionLemmas.{all_more}
 use Rattle.glacier_server.proofs.StreamLemmas.{over_quiet, piece_broken, piece_written}
+
+-- a piece of a connection's buffers is made of whole blocks, and has room for all that is unread
+pub piece_for : (piece here : ℕ) → piece ≡ PIECE → here ≤ MOST_HEAD → IsPieceFor piece here
+piece_for piece here is few = (
+  subst (λ (n : ℕ). 0 < n) (sym is) (leb-true 1 PIECE refl),
+  subst (λ (n : ℕ). n % block_size ≡ 0) (sym is) refl,
+  subst (λ (n : ℕ). here ≤ n) (sym is) (within here MOST_HEAD PIECE few (leb-true MOST_HEAD PIECE refl)),
+)
+  where
+    within : (a b d : ℕ) → a ≤ b → b ≤ d → a ≤ d
+    within a b d one two = omega (arith, one, two)
 
 -- what was written before is the front of all
 front_is : (w : ℕ) (before more : List ℕ) → length before ≡ w → take w (before ++ more) ≡ before

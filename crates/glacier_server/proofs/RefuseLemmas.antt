@@ -5,7 +5,7 @@ use Rattle.std.proofs.lemmas.List.Elements.{All-nil}
 use Rattle.glacier_disk.specs.Told.{Told}
 use Rattle.glacier_http.specs.declared.bad_head.BadHead.{BadHead}
 use Rattle.glacier_http.specs.declared.reply.Reply.{Reply}
-use Rattle.glacier_http.specs.Messages.{Message, bad as Bad, last_end}
+use Rattle.glacier_http.specs.Messages.{bad as Bad, last_end}
 use Rattle.glacier_machine.specs.declared.config.Config.{Config}
 use Rattle.glacier_machine.specs.Outcomes.{one}
 use Rattle.glacier_server.specs.Acts.{send, sends as acts_of}
@@ -14,7 +14,8 @@ use Rattle.glacier_server.specs.declared.end.End.TheVariants.{SendFault}
 use Rattle.glacier_server.specs.declared.end.ServeFault.TheVariants.{Memory}
 use Rattle.glacier_server.specs.Exchange.{Standing, BadStands, Exchanges, end_for_some}
 use Rattle.glacier_server.specs.Breaking.{BreaksOff}
-use Rattle.glacier_server.specs.Machine.{text_of_reply, reply, after, happened}
+use Rattle.glacier_server.specs.Machine.{reply, after, happened}
+use Rattle.glacier_server.specs.Texts.{text_of_reply}
 use Rattle.glacier_server.specs.Served.{failing_of}
 use Rattle.glacier_server.specs.Session.{answering, reading, acting}
 use Rattle.glacier_server.specs.Transfer.{Transfer, SentAll, SentPart, current}
@@ -24,11 +25,12 @@ use Rattle.glacier_server.proofs.TransferLemmas.{acts_then, says, fails_as, brea
 use Rattle.glacier_replay.specs.Changes.{State}
 use Rattle.glacier_server.specs.Placed.{Placed}
 
--- the text of a message's reply, by what the machine answers
-pub text_is : (config : Config) (state : State) (m : Message) (r : ℕ) (close : Bool) (answer : Reply)
-    → answer ≡ (one config state.accounts m r).reply → text_of_reply answer r close ≡ reply config state m r close
+-- the text of a bad head's reply, by what the machine answers: it has no output
+text_is : (config : Config) (state : State) (cause : BadHead) (r : ℕ) (close : Bool) (answer : Reply)
+    → answer ≡ (one config state.accounts (Bad cause) r).reply
+    → text_of_reply answer r close ≡ reply config state (Bad cause) r close
 unfolding reply
-text_is config state m r close answer is = ap (λ (a : Reply). text_of_reply a r close) is
+text_is config state cause r close answer is = ap (λ (a : Reply). text_of_reply a r close) is
 
 -- a bad head, for which a reading was taken
 still : (config : Config) (from : Standing) (cause : BadHead) (r : ℕ)
@@ -51,7 +53,7 @@ module _ (config : Config) {r : ℕ} {cause : BadHead} {a b : Told} (read : (pla
 
   module _ (answer : Reply) (is : answer ≡ (one config from.placed.state.accounts (Bad cause) r).reply) where
     same : text_of_reply answer r true ≡ reply config from.placed.state (Bad cause) r true
-    same = text_is config from.placed.state (Bad cause) r true answer is
+    same = text_is config from.placed.state cause r true answer is
 
     pub refused_sent : {c : Told} (e : End) → failing_of e ≡ nothing
         → end_for_some (last_end count (Bad cause)) ≡ Some e → SentAll b c (text_of_reply answer r true)

@@ -3,8 +3,9 @@ use Rattle.std.proofs.Common.{◌≡◌, ℕ, List, ◌++◌, length, refl, sym,
 use Rattle.std.specs.Prelude.{All}
 use Rattle.std.proofs.lemmas.List.Elements.{All-append}
 use Rattle.glacier_disk.specs.Network.{Wait}
-use Rattle.glacier_server.specs.Acts.{bytes_of}
-use Rattle.glacier_server.specs.Session.{Session, IsFront, IsFrontOf, wait_after, HeldAt, HeldWaiting}
+use Rattle.glacier_server.specs.Acts.{Act, bytes_of}
+use Rattle.glacier_server.specs.Placed.{Placed}
+use Rattle.glacier_server.specs.Session.{Session, IsFront, IsFrontOf, wait_after, HeldAt, HeldWaiting, answering}
 use Rattle.glacier_server.proofs.ActLemmas.{bytes_of-append}
 
 -- one behind the other
@@ -61,6 +62,27 @@ held_more start s t P w x = record {
   at = x.at;
   holds = x.holds;
 }
+
+-- the same waits, where more was done behind the last one
+pub held_on : {start : Wait} {before after later : Placed} {got : List ℕ} {acts : List Act} {r : ℕ}
+    {P : Session → Type 0} (waits : List Wait) (more : List Act)
+    → HeldWaiting start (answering before after got acts r waits) P
+    → HeldWaiting start (answering before later got (acts ++ more) r waits) P
+held_on {start = start} {before = before} {after = after} {later = later} {got = got} {acts = acts} {r = r} {P = P}
+    waits more =
+    all_more (HeldAt start (answering before after got acts r waits) P)
+    (HeldAt start (answering before later got (acts ++ more) r waits) P) waits
+    (λ w x. record {
+      till = x.till;
+      front = record {
+        before = x.front.before;
+        taken = x.front.taken;
+        acts = front_more x.till.acts acts more x.front.acts;
+        readings = x.front.readings;
+      };
+      at = x.at;
+      holds = x.holds;
+    })
 
 held_behind : (start : Wait) (s t : Session) (P Q : Session → Type 0) → ((u : Session) → IsFrontOf u t → Q u
     → P (joined s u)) → (w : Wait)

@@ -1,39 +1,25 @@
 -- The two calls of the store for a request: time passes, and then its action is done.
-use Rattle.std.proofs.Common.{◌≡◌, ◌⊎◌, ⊎_elim, ℕ, ◌+◌, ◌^◌, ◌<◌, ◌≤◌, Bool, true, false, cond, List, [], ◌∷◌, ◌++◌, length, take, Option, Some, None, Result, Ok, Err, refl, sym, ap, subst, ◌∙◌, arith, append-nil, append_assoc}
-use Rattle.std.specs.Cmp.Lexicographic.{nat_list_cmp_total}
+use Rattle.std.proofs.Common.{◌≡◌, ◌⊎◌, ⊎_elim, ℕ, ◌+◌, ◌^◌, ◌<◌, List, [], ◌∷◌, ◌++◌, length, take, Option, Some, None, Result, Ok, Err, refl, sym, ap, subst, ◌∙◌, arith, append-nil, append_assoc}
 use Rattle.std.specs.Prelude.{min}
-use Rattle.std.specs.Cmp.{eq_by_cmp_equiv}
-use Rattle.std.proofs.lemmas.Bool.{le-leb}
 use Rattle.std.proofs.lemmas.List.{take_all, take_min, take-append-le}
 use Rattle.std.proofs.lemmas.Result.{IfOk-weaker}
 use Rattle.std.proofs.Math.Seq.{take-append-add}
 use Rattle.glacier_disk.specs.Image.{Image}
 use Rattle.glacier_disk.specs.Moments.{joined, weaker}
 use Rattle.glacier_disk.specs.Told.{Told}
-use Rattle.glacier_machine.specs.declared.action.Request.{Request}
-use Rattle.glacier_machine.specs.declared.config.Config.{Config}
-use Rattle.glacier_machine.specs.Moments.{after_moment}
-use Rattle.glacier_machine.specs.AccountSteps.{asked_step}
-use Rattle.glacier_machine.specs.Outcomes.{events_of, moment_of, rules_of, step_outcome}
+use Rattle.glacier_machine.specs.Outcomes.{events_of}
 use Rattle.glacier_replay.specs.Changes.{State, accounts_after as after_one, after_account_event, after_all, change_in}
 use Rattle.glacier_replay.specs.Standing.{Stands}
-use Rattle.glacier_vault.specs.Accounts.{Accounts, AccountEvent, account_in}
-use Rattle.glacier_vault.specs.declared.state.AccountState.{AccountState}
-use Rattle.glacier_job.specs.Pass.{freed, pass, pass_is_event}
-use Rattle.glacier_replay.proofs.SettledLemmas.{account_after}
-use Rattle.glacier_vault.specs.Rows.{no_change}
+use Rattle.glacier_vault.specs.Accounts.{Accounts, AccountEvent}
 use Rattle.glacier_vault.specs.declared.event.Event.{Event}
-use Rattle.glacier_vault.specs.declared.event.Event.TheVariants.{Pass}
-use Rattle.glacier_vault.specs.declared.rules.Rules.{Rules}
 use Rattle.glacier_server.specs.declared.end.ServeFault.{ServeFault}
 use Rattle.glacier_server.specs.declared.end.ServeFault.TheVariants.{Disk, Memory, JournalEnd}
 use Rattle.glacier_server.specs.Events.{KeepsEvents, KeepsFirst, StandsForFirst, IsFault}
 use Rattle.glacier_server.specs.Rooms.{GrewBy, HasNoRoom, EndsJournal}
-use Rattle.glacier_server.specs.Machine.{asked_outcome, told_of}
 use Rattle.glacier_server.proofs.ActLemmas.{after_append}
-use Rattle.glacier_server.proofs.RoomLemmas.{grew_behind, grew_room, no_room_for}
+use Rattle.glacier_server.proofs.RoomLemmas.{events_of_plain, grew_behind, grew_room, no_room_for}
 use Rattle.glacier_store.specs.Kept.{Changes, Kept, Stays}
-use Rattle.glacier_store.specs.Steps.{Advances, Grows, accounts_after, room_of, time_events}
+use Rattle.glacier_store.specs.Steps.{Advances, Grows, accounts_after, room_of}
 use Rattle.glacier_store.specs.declared.fault.StoreFault.{StoreFault}
 use Rattle.glacier_store.specs.declared.fault.StoreFault.TheVariants as store_fault
 use Rattle.glacier_store.specs.declared.store.Store.{Store}
@@ -109,11 +95,11 @@ module _ {old new : Told} (state : State) (events : List AccountEvent) where
   stays_first stays = weaker old new _ _ stays (λ i now. record { count = 0; stands = now })
 
 -- the journal was at its end before the only event, if there is one
-at_end : (store : Store) (account : List ℕ) (m : ℕ) (event : Option Event) (body : List ℕ) (fault : StoreFault)
+at_end : (store : Store) (account : List ℕ) (m : ℕ) (event : Option Event) (body : List ℕ) → body ≡ [] → (fault : StoreFault)
     (length : ℕ) → fault ≡ store_fault.End length
     → Grows store.journal (room_of (events_of account m event body)) (Err fault)
     → EndsJournal store (events_of account m event body) length
-at_end store account m event body fault length is grows = go event (grows.end length (ap Err is)) (grows.some length (ap Err is))
+at_end store account m event body plain fault length is grows = go event (grows.end length (ap Err is)) (grows.some length (ap Err is))
   where
     go : (o : Option Event)
         → (length ≡ store.journal.length) × (2 ^ 62 < length + room_of (events_of account m o body))
@@ -124,11 +110,12 @@ at_end store account m event body fault length is grows = go event (grows.end le
       left = events_of account m (Some happened) body;
       split = refl;
       grew = (0, refl, omega (arith, end.0));
-      full = no_room_for length (record { account = account; moment = m; event = happened; body = body }) end.1;
+      full = no_room_for length (record { account = account; moment = m; event = happened; body = body }) plain end.1;
     }
 
--- one call of the store, which keeps an event, if there is one
-module _ {T : Type 0} {old new : Told} (store : Store) (account : List ℕ) (m : ℕ) (event : Option Event) (body : List ℕ) where
+-- one call of the store, which keeps an event without a body, if there is one
+module _ {T : Type 0} {old new : Told} (store : Store) (account : List ℕ) (m : ℕ) (event : Option Event) (body : List ℕ)
+    (plain : body ≡ []) where
   -- it is kept
   pub action_done : (one : Store) (value : T) → Advances old new store (events_of account m event body) (Ok one)
       → one.accounts ≡ accounts_after store.accounts (events_of account m event body)
@@ -136,7 +123,8 @@ module _ {T : Type 0} {old new : Told} (store : Store) (account : List ℕ) (m :
       → KeepsEvents {T = T} old new store [] (events_of account m event body) (Ok (value, one))
   action_done one value advances is grows = record {
     accounts = is;
-    grew = grew_room store.journal.length one.journal.length (events_of account m event body) grows.longer;
+    grew = grew_room store.journal.length one.journal.length (events_of account m event body)
+        (events_of_plain account m event body plain) grows.longer;
     any_moment = λ state kept. changes_first state (events_of account m event body) (advances.any_moment state (kept_held kept));
     kept = λ state kept. advances.kept state kept;
     memory = λ state kept never. absurd (cc);
@@ -156,7 +144,7 @@ module _ {T : Type 0} {old new : Told} (store : Store) (account : List ℕ) (m :
     memory = λ state kept same. let at : other ≡ Memory = cc in
         stays_first state [] (advances.memory state (kept_held kept) (ap Err (is_memory fault other is at)));
     end = λ length same. let at : other ≡ JournalEnd length = cc in
-        at_end store account m event body fault length (is_end fault other length is at) grows;
+        at_end store account m event body plain fault length (is_end fault other length is at) grows;
   }
 
   -- it was one of time that passes, and what was to be done behind it wasn't
@@ -174,7 +162,7 @@ module _ {T : Type 0} {old new : Told} (store : Store) (account : List ℕ) (m :
         stays_first state (events_of account m event body) (advances.memory state (kept_held kept) (ap Err (is_memory fault other is at)));
     end = λ length same. let at : other ≡ JournalEnd length = cc in
         ends_sooner store (events_of account m event body) done length
-        (at_end store account m event body fault length (is_end fault other length is at) grows);
+        (at_end store account m event body plain fault length (is_end fault other length is at) grows);
   }
 
 -- the accounts after events one behind the other
@@ -221,30 +209,3 @@ module _ {T : Type 0} {old mid new : Told} (store one : Store) (passed done : Li
           full = end.full;
         };
   }
-
--- time makes of an account what the moment does
-pub passed_account : (before : Accounts) (k : List ℕ) (m : ℕ) → (account_in before k).last ≤ m
-    → account_in (accounts_after before (time_events k m before)) k ≡ after_moment m (account_in before k)
-passed_account before k m time = at (pass_is_event m (account_in before k))
-  where
-    at : (b : Bool)
-        → account_in (accounts_after before (events_of k m (cond b (record { event = cond b (Some Pass) None; freed = freed m (account_in before k) }) no_change).event [])) k
-        ≡ cond b (pass m (account_in before k)) (account_in before k)
-    at true =
-        ap (λ (fits : Bool). account_in (after_one before k (cond fits (Some (pass m (account_in before k), freed m (account_in before k))) None)) k)
-        (le-leb (account_in before k).last m time)
-        ∙ account_after before k (pass m (account_in before k)) k
-        ∙ ap (λ (b : Bool). cond b (pass m (account_in before k)) (account_in before k)) ((eq_by_cmp_equiv nat_list_cmp_total).refl k)
-    at false = refl
-
--- the outcome of a request is that of what is asked once time has passed
-pub asked_behind : (config : Config) (rules : Rules) (request : Request) (reading m : ℕ) (accounts one : Accounts)
-    → rules ≡ rules_of config request.account → m ≡ moment_of (account_in accounts request.account) reading
-    → account_in one request.account ≡ after_moment m (account_in accounts request.account)
-    → asked_outcome rules m request.asked one
-    ≡ record (told_of (rules_of config request.account) accounts request reading) { passed = [] }
-asked_behind config rules request reading m accounts one is at same =
-    ap (λ (r : Rules). asked_outcome r m request.asked one) is
-    ∙ ap (λ (s : AccountState). step_outcome request.account m [] (asked_step (rules_of config request.account) m request.asked [] s)) same
-    ∙ ap (λ (n : ℕ). step_outcome request.account n [] (asked_step (rules_of config request.account) n request.asked []
-    (after_moment n (account_in accounts request.account)))) at

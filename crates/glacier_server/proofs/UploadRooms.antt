@@ -18,12 +18,12 @@ use Rattle.glacier_machine.specs.ArchiveSteps.{found_in, upload_step}
 use Rattle.glacier_replies.specs.Replies.{refused}
 use Rattle.glacier_vault.specs.Accounts.{AccountEvent}
 use Rattle.glacier_vault.specs.declared.event.Event.{Event}
-use Rattle.glacier_server.specs.UploadCalls.{GrewWith, HasNoRoomWith, IsBodyRoom}
+use Rattle.glacier_server.specs.Rooms.{GrewBy, HasNoRoom, IsRoom}
 
 -- a body that has some bytes lies in as many blocks as it needs
 module _ (own : List Run) (account : List ℕ) (m : ℕ) (body : List ℕ) (some : 0 < length body)
     (blocks : block_count own ≡ div_ceil (length body) block_size) where
-  room_is : (event : Event) → IsBodyRoom (event_at account m event body) (record_room (event_at account m event body) own)
+  room_is : (event : Event) → IsRoom (event_at account m event body) (record_room (event_at account m event body) own)
   room_is event = (own, blocks, λ none. absurd (omega (arith, some, ap length none)), refl)
 
   -- the events of a change with it
@@ -31,13 +31,14 @@ module _ (own : List Run) (account : List ℕ) (m : ℕ) (body : List ℕ) (some
   events event = events_of account m event body
 
   pub grew_with : (before after : ℕ) (event : Option Event) → after ≡ before + room_with own (events event)
-      → GrewWith before after (events event)
-  grew_with before after None is = omega (arith, is)
+      → GrewBy before after (events event)
+  grew_with before after None is = (0, refl, omega (arith, is))
   grew_with before after (Some event) is =
-      (record_room (event_at account m event body) own, room_is event, omega (arith, is))
+      let n = record_room (event_at account m event body) own in
+      (n, (n, 0, room_is event, refl, omega arith), omega (arith, is))
 
   pub no_room_with : (length : ℕ) (event : Option Event) → 2 ^ 62 < length + room_with own (events event)
-      → 0 < room_with own (events event) → HasNoRoomWith length (events event)
+      → 0 < room_with own (events event) → HasNoRoom length (events event)
   no_room_with length None full room = absurd (omega (arith, room))
   no_room_with length (Some event) full room =
       (record_room (event_at account m event body) own, room_is event, omega (arith, full))

@@ -24,10 +24,11 @@ use Rattle.glacier_server.specs.Breaking.{HasBroken}
 use Rattle.glacier_server.specs.Does.{breaking}
 use Rattle.glacier_server.specs.Events.{KeepsFirst}
 use Rattle.glacier_server.specs.Placed.{Placed, placed_as}
+use Rattle.glacier_server.specs.Rooms.{GrewBy}
 use Rattle.glacier_server.specs.Session.{taking}
 use Rattle.glacier_server.specs.Streams.{HasStreamed, HasWritten, Written, stream_of}
 use Rattle.glacier_server.specs.Transfer.{Transfer}
-use Rattle.glacier_server.specs.UploadCalls.{EndsUpload, GrewWith, HasOpened}
+use Rattle.glacier_server.specs.UploadCalls.{EndsUpload, HasOpened}
 use Rattle.glacier_server.specs.Uploads.{BreaksUpload, HasUploaded, Upload, events_with, reply_with, upload_of, uploading}
 use Rattle.glacier_server.proofs.PiecesLemmas.{none_written}
 use Rattle.glacier_server.proofs.StepLemmas.{keeps_all, keeps_some, left_after}
@@ -68,8 +69,7 @@ module _ (u : Upload) (begun : Store) (same : OnlyFree u.store begun) (first : B
       let ends = by_first (Ok (reply, after)) given in record {
         came = came u begun same first piece x.rest;
         reply_is = is ∙ ap (λ (a : Accounts). (archive_step u.rules u.moment u.ask message (account_in a u.rules.account)).answer.reply) same.accounts;
-        grew = subst (λ (j : Journal). GrewWith j.length after.journal.length events) same.journal ends.grew;
-        transfer = λ state grew.
+        transfer = λ state.
             let placed = placed_as u.store state in
             acts_then (taking placed x.rest.got x.rest.takes.waits) (placed_as after (after_all state events)) (keeps events)
             (took u begun same first piece x.rest state)
@@ -78,7 +78,7 @@ module _ (u : Upload) (begun : Store) (same : OnlyFree u.store begun) (first : B
             (placed_as after (after_all state events)) refl
             (λ agrees. ends.accounts ∙ ap (λ (a : Accounts). accounts_after a events) (same.accounts ∙ agrees)
             ∙ sym (accounts_of_all state events))
-            grew
+            (subst (λ (j : Journal). GrewBy j.length after.journal.length events) same.journal ends.grew)
             (λ kept. ends.kept state (held_as u begun same mid state begun same kept) (beside kept.rest)));
       }
 

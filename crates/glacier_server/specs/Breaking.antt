@@ -1,20 +1,24 @@
 -- Why the server broke off, and what was done for the last message.
-use Rattle.std.specs.Prelude.{◌≡◌, ℕ, List, [], ◌++◌, Option, Some, None, Result, Ok, Err}
+use Rattle.std.specs.Prelude.{◌≡◌, ◌⊎◌, ℕ, IsTrue, List, [], ◌++◌, Option, Some, None, Result, Ok, Err}
+use Rattle.std.specs.Option.{is_some}
 use Rattle.glacier_base.specs.Outside.{HasRisen}
 use Rattle.glacier_disk.specs.Network.{wait_of}
 use Rattle.glacier_disk.specs.Told.{Told}
+use Rattle.glacier_machine.specs.Outcomes.{one}
+use Rattle.glacier_replay.specs.Changes.{State}
 use Rattle.glacier_machine.specs.declared.config.Config.{Config}
 use Rattle.glacier_server.specs.declared.end.ServeFault.{ServeFault}
 use Rattle.glacier_server.specs.declared.end.ServeFault.TheVariants.{Disk, Memory, JournalEnd, Accept}
 use Rattle.glacier_server.specs.Acts.{Act, bytes_of, events_in}
 use Rattle.glacier_server.specs.Does.{Grew, breaking}
 use Rattle.glacier_server.specs.Exchange.{Standing, exchange_on, AnswersPart, Idles}
+use Rattle.glacier_server.specs.Machine.{happened}
 use Rattle.glacier_server.specs.Out.{run, out}
 use Rattle.glacier_server.specs.Rooms.{EndsJournal}
 use Rattle.glacier_server.specs.Served.{AnsweredPart, Part, IsPrompt}
 use Rattle.glacier_server.specs.Session.{Session, HeldWaiting, IsFront}
 use Rattle.glacier_server.specs.Transfer.{Transfer, current}
-use Rattle.glacier_server.specs.Turns.{Turn, turn_events, turn_interim, turn_passed}
+use Rattle.glacier_server.specs.Turns.{Turn, begun, whole, turn_events, turn_interim, turn_passed}
 use Rattle.glacier_server.specs.Placed.{Placed}
 
 -- what broke a connection off, by the count of the disk's faults: no accept did
@@ -33,11 +37,19 @@ ShowsDisk (Err fault) old new = HasBroken fault old new
 abbrev pub NoReplyTo : Turn → List Act → Type 0
 NoReplyTo turn acts = IsFront (bytes_of acts) (turn_interim turn)
 
--- what was done for a turn at a reading, from this store, before the server broke off: no byte of its reply was sent;
--- for want of memory no event was kept but of time that passes, and where the journal was at its end, there was no room
+-- a message has an output, and all its events were kept: then a call of the disk may fail while the output's bytes are
+-- read and sent
+abbrev pub IsAmidOutput : Config → State → Turn → ℕ → List Act → Type 0
+IsAmidOutput config state (whole m) reading acts =
+    IsTrue (is_some (one config state.accounts m reading).output) × (events_in acts ≡ happened config state m reading)
+IsAmidOutput config state (begun h) reading acts = ⊥
+
+-- what was done for a turn at a reading, from this store, before the server broke off: no byte of its reply was sent,
+-- unless it has an output; for want of memory no event was kept but of time that passes, and where the journal was at its end, there was no room
 -- for the next of its events
 abbrev pub BrokenFor : Config → Placed → Turn → ℕ → List Act → ServeFault → Type 0
-BrokenFor config placed turn reading acts Disk = NoReplyTo turn acts
+BrokenFor config placed turn reading acts Disk =
+    NoReplyTo turn acts ⊎ IsAmidOutput config placed.state turn reading acts
 BrokenFor config placed turn reading acts Memory = NoReplyTo turn acts
     × IsFront (events_in acts) (turn_passed config placed.state turn reading)
 BrokenFor config placed turn reading acts (JournalEnd length) = NoReplyTo turn acts

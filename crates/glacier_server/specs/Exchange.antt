@@ -48,6 +48,11 @@ abbrev pub failing_in : {T E : Type 0} → Result (Option End × T) E → Failin
 failing_in (Ok r) = failing_at r.0
 failing_in (Err e) = breaking
 
+-- the same where an error is the end
+abbrev pub failing_before : {T : Type 0} → Result T End → Failing
+failing_before (Ok x) = nothing
+failing_before (Err end) = failing_of end
+
 -- the same where an error is want of memory, and the store is still there
 abbrev pub failing_on : {E : Type 0} → Result End E → Failing
 failing_on (Ok end) = failing_of end

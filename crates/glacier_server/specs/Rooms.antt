@@ -1,12 +1,18 @@
 -- The room that events take in the journal.
-use Rattle.std.specs.Prelude.{◌≡◌, ℕ, ◌+◌, ◌<◌, ◌^◌, List, [], ◌∷◌, ◌++◌}
-use Rattle.glacier_store.specs.Steps.{room_of}
+use Rattle.std.specs.Prelude.{◌≡◌, ℕ, ◌+◌, ◌<◌, ◌^◌, List, [], ◌∷◌, ◌++◌, length}
+use Rattle.std.specs.Int.{div_ceil}
+use Rattle.glacier_extents.specs.declared.run.Run.{Run}
+use Rattle.glacier_extents.specs.Places.{block_size}
+use Rattle.glacier_extents.specs.Runs.{block_count}
+use Rattle.glacier_store.specs.Calls.{record_room}
 use Rattle.glacier_store.specs.declared.store.Store.{Store}
 use Rattle.glacier_vault.specs.Accounts.{AccountEvent}
 
--- an event may take so many bytes
+-- an event may take so many bytes, where its body lies in as many blocks as it needs
 abbrev pub IsRoom : AccountEvent → ℕ → Type 0
-IsRoom happened n = n ≡ room_of (happened ∷ [])
+IsRoom happened n =
+    (runs : List Run) × (block_count runs ≡ div_ceil (length happened.body) block_size)
+    × (happened.body ≡ [] → runs ≡ []) × (n ≡ record_room happened runs)
 
 -- events take so many bytes, one behind the other
 abbrev pub AreRooms : List AccountEvent → ℕ → Type 0

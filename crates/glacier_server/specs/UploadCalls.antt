@@ -1,5 +1,5 @@
 -- What the store's calls do for an upload: its body is opened, and once it is whole it ends.
-use Rattle.std.specs.Prelude.{◌≡◌, ℕ, ◌+◌, ◌<◌, ◌≤◌, ◌^◌, List, [], ◌∷◌, length, Result, IfOk, IsErrOf}
+use Rattle.std.specs.Prelude.{◌≡◌, ℕ, ◌≤◌, List, [], Result, IfOk, IsErrOf}
 use Rattle.std.specs.Int.{div_ceil}
 use Rattle.glacier_bodies.specs.BlobAreas.{IsOpen}
 use Rattle.glacier_bodies.specs.Bodies.{HasTaken, body_room, body_runs}
@@ -11,7 +11,6 @@ use Rattle.glacier_extents.specs.Runs.{block_count}
 use Rattle.glacier_http.specs.declared.reply.Reply.{Reply}
 use Rattle.glacier_replay.specs.Changes.{State, after_all}
 use Rattle.glacier_replay.specs.Made.{IsRest}
-use Rattle.glacier_store.specs.Calls.{record_room}
 use Rattle.glacier_store.specs.Kept.{IsHeld, IsRestBeside, Kept}
 use Rattle.glacier_store.specs.Steps.{accounts_after}
 use Rattle.glacier_store.specs.declared.store.Store.{Store}
@@ -19,22 +18,7 @@ use Rattle.glacier_vault.specs.Accounts.{AccountEvent}
 use Rattle.glacier_server.specs.declared.end.ServeFault.{ServeFault}
 use Rattle.glacier_server.specs.declared.end.ServeFault.TheVariants.{Memory, JournalEnd}
 use Rattle.glacier_server.specs.Events.{KeepsFirst}
-
--- an event may take so many bytes, where its body has as many blocks as it needs
-abbrev pub IsBodyRoom : AccountEvent → ℕ → Type 0
-IsBodyRoom happened n =
-    (runs : List Run) × (block_count runs ≡ div_ceil (length happened.body) block_size)
-    × (happened.body ≡ [] → runs ≡ []) × (n ≡ record_room happened runs)
-
--- a length became this one by these events with their bodies
-abbrev pub GrewWith : ℕ → ℕ → List AccountEvent → Type 0
-GrewWith before after [] = after ≡ before
-GrewWith before after (happened ∷ more) = (n : ℕ) × IsBodyRoom happened n × GrewWith (before + n) after more
-
--- behind a journal of this length there is no room for the first of these events with its body
-abbrev pub HasNoRoomWith : ℕ → List AccountEvent → Type 0
-HasNoRoomWith length [] = ⊥
-HasNoRoomWith length (happened ∷ more) = (n : ℕ) × IsBodyRoom happened n × (2 ^ 62 < length + n)
+use Rattle.glacier_server.specs.Rooms.{GrewBy, HasNoRoom}
 
 -- the body was opened in blocks that no body and no blob has, as many as it needs
 pub record HasOpened (old new : Store) (size : ℕ) (body : Body) : Type 0 where
@@ -50,10 +34,10 @@ pub record HasOpened (old new : Store) (size : ℕ) (body : Body) : Type 0 where
 pub record EndsUpload (old new : Told) (store : Store) (own : List Run) (events : List AccountEvent)
     (result : Result (Reply × Store) ServeFault) : Type 0 where
   pub accounts : IfOk result (λ r. r.1.accounts ≡ accounts_after store.accounts events)
-  pub grew : IfOk result (λ r. GrewWith store.journal.length r.1.journal.length events)
+  pub grew : IfOk result (λ r. GrewBy store.journal.length r.1.journal.length events)
   pub any_moment : (state : State) → IsHeld old store state → KeepsFirst old new state events
   pub kept : (state : State) → IsHeld old store state → IsRestBeside own store.area.free store.area.blobs
       → IfOk result (λ r. Kept new r.1 (after_all state events))
   pub memory : (state : State) → IsHeld old store state → IsErrOf result Memory → KeepsFirst old new state []
   pub end : (length : ℕ) → IsErrOf result (JournalEnd length)
-      → (length ≡ store.journal.length) × HasNoRoomWith length events
+      → (length ≡ store.journal.length) × HasNoRoom length events

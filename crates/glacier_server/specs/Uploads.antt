@@ -1,5 +1,5 @@
 -- What a server does with the body of an upload that nothing refuses before it.
-use Rattle.std.specs.Prelude.{◌≡◌, ◌⊎◌, ℕ, ◌+◌, ◌<◌, List, [], ◌++◌, length, All, Result, Ok, Err}
+use Rattle.std.specs.Prelude.{◌≡◌, ◌⊎◌, ℕ, ◌+◌, ◌<◌, ◌≤◌, List, [], ◌++◌, length, All, Result, Ok, Err}
 use Rattle.glacier_disk.specs.declared.area.Area.TheVariants.{Blobs}
 use Rattle.glacier_disk.specs.Network.{Wait, wait_of}
 use Rattle.glacier_disk.specs.Told.{Told}
@@ -22,10 +22,9 @@ use Rattle.glacier_server.specs.Acts.{keeps}
 use Rattle.glacier_server.specs.Does.{Failing, nothing, receiving, breaking}
 use Rattle.glacier_server.specs.Machine.{IsPrintableIn}
 use Rattle.glacier_server.specs.Placed.{Placed, placed_as}
-use Rattle.glacier_server.specs.Rooms.{GrewBy}
+use Rattle.glacier_server.specs.Rooms.{HasNoRoom}
 use Rattle.glacier_server.specs.Session.{Session, IsFront}
 use Rattle.glacier_server.specs.Streams.{IsStreamed}
-use Rattle.glacier_server.specs.UploadCalls.{GrewWith, HasNoRoomWith}
 use Rattle.glacier_server.specs.Transfer.{NoneComing, TakenAt, Transfer, current}
 
 -- what is uploaded, to a store, by the rules of its account, at a moment: what was asked for, the first bytes of the body,
@@ -72,10 +71,7 @@ uploading {u = u} came state after events = record {
 pub record HasUploaded (u : Upload) (old new : Told) (reply : Reply) (after : Store) : Type 0 where
   pub came : Came u old 0
   pub reply_is : reply ≡ reply_with u (u.here ++ came.got)
-  pub grew : GrewWith u.store.journal.length after.journal.length (events_with u (u.here ++ came.got))
-  pub transfer : (state : State)
-      → GrewBy u.store.journal.length after.journal.length (events_with u (u.here ++ came.got))
-      → Transfer old new (uploading came state (placed_as after (after_all state (events_with u (u.here ++ came.got))))
+  pub transfer : (state : State) → Transfer old new (uploading came state (placed_as after (after_all state (events_with u (u.here ++ came.got))))
       (events_with u (u.here ++ came.got))) nothing
 
 -- a part of the body was taken, and nothing was kept of it: only the free blocks may be others
@@ -93,6 +89,12 @@ HasEndedBody u piece old new (Done reply after) = HasUploaded u old new reply af
 HasEndedBody u piece old new (Cut left after) =
     (cut : CutsUpload u piece old new after nothing) × (cut.left ≡ left) × NoneComing new
 HasEndedBody u piece old new (Failed after) = CutsUpload u piece old new after receiving
+
+-- no more of its bytes are missing than were
+abbrev pub IsWithinEnd : ℕ → BodyEnd → Type 0
+IsWithinEnd missing (Done reply after) = Unit {0}
+IsWithinEnd missing (Cut left after) = left ≤ missing
+IsWithinEnd missing (Failed after) = Unit {0}
 
 -- the reply can be printed where there is one
 abbrev pub IsPrintableEnd : ℕ → BodyEnd → Type 0
@@ -116,7 +118,7 @@ BrokenUpload {u = u} {left = left} piece new came kept Disk =
 BrokenUpload piece new came kept Memory = kept ≡ []
 BrokenUpload {u = u} {left = left} piece new came kept (JournalEnd length) =
     (left ≡ 0) × IsFront kept (events_with u (u.here ++ came.got)) × (length ≡ u.store.journal.length)
-    × HasNoRoomWith length (events_with u (u.here ++ came.got))
+    × HasNoRoom length (events_with u (u.here ++ came.got))
 BrokenUpload piece new came kept Accept = ⊥
 
 -- bytes of the body were taken, and then the server broke off, behind some first ones of these events at most

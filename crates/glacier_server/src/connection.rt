@@ -28,11 +28,11 @@ impl<R: Threads + Sync> Service<'_, R> {
     ) -> Result<(End, Store), ServeFault>
         requires connected { (S.told station.old).connected ≡ true }
         requires open { (S.told station.old).opened ≡ true }
-        ensures served { IsTrue S.tells → (state : State) → store.accounts ≡ state.accounts →
+        ensures served { IsTrue S.tells → (state : State) → Kept (S.told station.old) store state →
             IfOk result (λ r. (after : State) × ServedLast self.now.config.now
             (S.told station.old) (S.told station.new) (placed_as store state)
             (placed_as r.1 after) r.0) }
-        ensures broken { IsTrue S.tells → (state : State) → store.accounts ≡ state.accounts →
+        ensures broken { IsTrue S.tells → (state : State) → Kept (S.told station.old) store state →
             IfErr result (λ fault. PartLast self.now.config.now
             (S.told station.old) (S.told station.new) (placed_as store state) fault) }
         ensures fault { IfErr result

@@ -3,8 +3,7 @@ ghost use Rattle.std.specs.Prelude.{◌≡◌, ◌+◌, [], ◌==◌, ◌<◌, �
 ghost use Rattle.glacier_http.specs.Messages.{bad as Bad, last_end, end_of_rest};
 ghost use Rattle.glacier_http.specs.Step.{IsStep};
 ghost use Rattle.glacier_http.specs.declared.head_spans.HeadStep.TheVariants as step;
-ghost use Rattle.glacier_server.specs.Begun.{HasBegun};
-ghost use Rattle.glacier_server.specs.Exchange.{Exchanges, Standing, BadStands, standing, failing_at, failing_in, failing_on, end_for, end_for_some, end_of_good};
+ghost use Rattle.glacier_server.specs.Exchange.{Exchanges, Standing, BadStands, standing, failing_in, failing_on, end_for, end_for_some};
 ghost use Rattle.glacier_server.specs.Breaking.{BreaksOff};
 ghost use Rattle.glacier_server.specs.Served.{failing_of};
 ghost use Rattle.glacier_server.specs.Breaking.{HasBroken};
@@ -13,16 +12,16 @@ ghost use Rattle.glacier_server.specs.Transfer.{Keeps};
 ghost use Rattle.glacier_server.specs.Does.{nothing};
 ghost use Rattle.glacier_server.specs.Placed.{placed_as};
 ghost use Rattle.glacier_replay.specs.Changes.{State};
+ghost use Rattle.glacier_store.specs.Kept.{Kept};
 
-use crate::body::{front_of, take_body};
+use crate::admission::is_bulk_at;
 use crate::buffers::Buffers;
 use crate::end::{End, ServeFault};
-use crate::extent::extent_of;
 use crate::next_head::next_head;
 use crate::read_buffer::ReadBuffer;
-use crate::reply_sender::{MOST_AT_ONCE, Stamp, send_interim, send_reply};
+use crate::reply_sender::{MOST_AT_ONCE, Stamp, send_reply};
 use crate::service::Service;
-use glacier_base::{Memory, Moment};
+use glacier_base::Memory;
 use glacier_disk::Station;
 use glacier_http::{BadHead, HeadSpans, HeadStep, MOST_MESSAGES};
 use glacier_store::Store;
@@ -38,22 +37,6 @@ fn bad_end(count: u64) -> End
         End::Bound
     } else {
         End::Refused
-    }
-}
-
-/// The end that a good message makes, if any.
-fn good_end(count: u64, close: bool) -> Option<End>
-    requires { count < MOST_MESSAGES }
-    ensures end { result ≡ end_of_good count close }
-    ensures of_none { failing_at result ≡ nothing }
-    ensures below { result ≡ None → count + 1 < MOST_MESSAGES }
-{
-    if count + 1 == MOST_MESSAGES {
-        Some(End::Bound)
-    } else if close {
-        Some(End::Closed)
-    } else {
-        None
     }
 }
 
@@ -106,75 +89,6 @@ impl<R: Threads + Sync> Service<'_, R> {
         }
     }
 
-    /// Answers the message at the front of the unread bytes, for whose good head what is due was done.
-    #[tactic(auto, using(crate::proofs::KeepLemmas::kept))]
-    fn answer_begun<S: Station>(
-        &self,
-        station: &mut S,
-        buffers: &mut Buffers,
-        store: Store,
-        spans: &HeadSpans,
-        count: u64,
-        reading: Moment,
-    ) -> Result<(Option<End>, Store), ServeFault>
-        requires connected { (S.told station.old).connected ≡ true }
-        requires open { (S.told station.old).opened ≡ true }
-        requires good { IsStep buffers.old.unread buffers.old.head (step.Head spans.now) }
-        requires small { spans.now.content_length ≤ 2 ^ 33 }
-        requires below { count < MOST_MESSAGES }
-        ensures exchange { IsTrue S.tells → (old : S) (state : State) → store.accounts ≡ state.accounts →
-            HasBegun self.now.config.now (standing count buffers.old.unread (placed_as store state))
-            (placed_as store state) reading (S.told old) (S.told station.old) →
-            IfOk result (λ r. (after : State) × Exchanges self.now.config.now
-            (standing count buffers.old.unread (placed_as store state))
-            (standing (count + 1) buffers.new.unread (placed_as r.1 after))
-            (S.told old) (S.told station.new) r.0) }
-        ensures broken { IsTrue S.tells → (old : S) (state : State) → store.accounts ≡ state.accounts →
-            HasBegun self.now.config.now (standing count buffers.old.unread (placed_as store state))
-            (placed_as store state) reading (S.told old) (S.told station.old) →
-            IfErr result (λ fault. BreaksOff self.now.config.now
-            (standing count buffers.old.unread (placed_as store state)) (S.told old)
-            (S.told station.new) fault) }
-        ensures fault { IfErr result
-            (λ fault. HasBroken fault (S.told station.old) (S.told station.new)) }
-        ensures below { IfOk result (λ r. r.0 ≡ None → count + 1 < MOST_MESSAGES) }
-        ensures keeps { Keeps (S.told station.old) (S.told station.new) (failing_in result) }
-    {
-        let length = buffers.unread.count();
-        let extent = extent_of(spans, length);
-        let here = &buffers.unread.bytes()[spans.head_length as usize..extent.used];
-        let size = spans.content_length;
-        let left = match take_body(station, &mut buffers.body, here, extent.left, size) {
-            Ok(left) => left,
-            Err(_) => return Ok((Some(End::ReadFault), store)),
-        };
-        if left > 0 {
-            let end = End::Cut {
-                taken: length as u64 + (extent.left - left),
-            };
-            return Ok((Some(end), store));
-        }
-        let lent = &*buffers;
-        let kept = front_of(&lent.body, size);
-        let replied = self.reply_to_message(station, store, lent, spans, kept, reading);
-        let (reply, store) = match replied {
-            Ok(replied) => replied,
-            Err(fault) => return Err(fault),
-        };
-        let end = good_end(count, spans.close);
-        let stamp = Stamp {
-            date: reading,
-            close: end.is_some(),
-        };
-        match send_reply(station, &reply, &stamp, &mut buffers.reply) {
-            Ok(()) => {
-                buffers.unread.skip(extent.used);
-                Ok((end, store))
-            }
-            Err(_) => Ok((Some(End::SendFault), store)),
-        }
-    }
-
     /// Answers the message whose good head stands at the front of the unread bytes.
     #[tactic(auto, using(crate::proofs::KeepLemmas::kept))]
     fn answer<S: Station>(
@@ -190,24 +104,26 @@ impl<R: Threads + Sync> Service<'_, R> {
         requires good { IsStep buffers.old.unread buffers.old.head (step.Head spans.now) }
         requires small { spans.now.content_length ≤ 2 ^ 33 }
         requires below { count < MOST_MESSAGES }
-        ensures exchange { IsTrue S.tells → (state : State) → store.accounts ≡ state.accounts →
+        ensures exchange { IsTrue S.tells → (state : State) →
+            Kept (S.told station.old) store state →
             IfOk result (λ r. (after : State) × Exchanges self.now.config.now
             (standing count buffers.old.unread (placed_as store state))
             (standing (count + 1) buffers.new.unread (placed_as r.1 after))
             (S.told station.old) (S.told station.new) r.0) }
-        ensures broken { IsTrue S.tells → (state : State) → store.accounts ≡ state.accounts →
-            IfErr result (λ fault. BreaksOff self.now.config.now
-            (standing count buffers.old.unread (placed_as store state)) (S.told station.old)
-            (S.told station.new) fault) }
+        ensures broken { IsTrue S.tells → (state : State) →
+            Kept (S.told station.old) store state →
+            IfErr result (BreaksOff self.now.config.now
+            (standing count buffers.old.unread (placed_as store state)) (S.told station.old) (S.told station.new)) }
         ensures fault { IfErr result
             (λ fault. HasBroken fault (S.told station.old) (S.told station.new)) }
         ensures below { IfOk result (λ r. r.0 ≡ None → count + 1 < MOST_MESSAGES) }
         ensures keeps { Keeps (S.told station.old) (S.told station.new) (failing_in result) }
     {
         let reading = station.now();
-        match send_interim(station, spans) {
-            Ok(()) => self.answer_begun(station, buffers, store, spans, count, reading),
-            Err(_) => Ok((Some(End::SendFault), store)),
+        if is_bulk_at(buffers, spans) {
+            self.answer_bulk(station, buffers, store, spans, count, reading)
+        } else {
+            self.answer_plain(station, buffers, store, spans, count, reading)
         }
     }
 
@@ -223,15 +139,16 @@ impl<R: Threads + Sync> Service<'_, R> {
         requires connected { (S.told station.old).connected ≡ true }
         requires open { (S.told station.old).opened ≡ true }
         requires below { count < MOST_MESSAGES }
-        ensures exchange { IsTrue S.tells → (state : State) → store.accounts ≡ state.accounts →
+        ensures exchange { IsTrue S.tells → (state : State) →
+            Kept (S.told station.old) store state →
             IfOk result (λ r. (after : State) × Exchanges self.now.config.now
             (standing count buffers.old.unread (placed_as store state))
             (standing (count + 1) buffers.new.unread (placed_as r.1 after))
             (S.told station.old) (S.told station.new) r.0) }
-        ensures broken { IsTrue S.tells → (state : State) → store.accounts ≡ state.accounts →
-            IfErr result (λ fault. BreaksOff self.now.config.now
-            (standing count buffers.old.unread (placed_as store state)) (S.told station.old)
-            (S.told station.new) fault) }
+        ensures broken { IsTrue S.tells → (state : State) →
+            Kept (S.told station.old) store state →
+            IfErr result (BreaksOff self.now.config.now
+            (standing count buffers.old.unread (placed_as store state)) (S.told station.old) (S.told station.new)) }
         ensures fault { IfErr result
             (λ fault. HasBroken fault (S.told station.old) (S.told station.new)) }
         ensures below { IfOk result (λ r. r.0 ≡ None → count + 1 < MOST_MESSAGES) }

@@ -2,22 +2,15 @@
 ghost use Rattle.std.specs.Prelude.{◌≡◌, ◌<◌, ◌≤◌, [], IsTrue, length, take, drop, IfOk};
 ghost use Rattle.glacier_replay.specs.Changes.{State};
 ghost use Rattle.glacier_server.specs.Machine.{IsPrintableIn};
-ghost use Rattle.glacier_server.specs.Outputs.{IsHeldIn, IsReady, OnlySends, SendsOutput, SendsPiece, ShowsFault, failing_by, head_of_output, promised, text_of_output};
+ghost use Rattle.glacier_server.specs.Outputs.{IsHeldIn, IsReady, IsThere, OnlySends, SendsOutput, SendsPiece, ShowsFault, failing_by};
+ghost use Rattle.glacier_server.specs.Texts.{head_of_output, promised, text_of_output};
 ghost use Rattle.glacier_store.specs.Outputs.{stretch_bytes};
 
 use crate::reply_sender::Stamp;
-use glacier_base::Account;
 use glacier_disk::Station;
 use glacier_http::{Reply, write_head};
-use glacier_machine::Stretch;
+use glacier_machine::{Output, Stretch};
 use glacier_store::Store;
-
-/// The bytes of an archive that are the body of a reply, and whose archive it is.
-#[derive(Clone, Copy)]
-pub struct Output<'a> {
-    pub account: &'a Account,
-    pub stretch: &'a Stretch,
-}
 
 /// Why an output wasn't sent whole.
 #[derive(Clone, Copy, Debug, PartialEq, Eq)]
@@ -26,28 +19,30 @@ pub enum OutputFault {
     Send,
     /// A call of the disk failed.
     Disk,
-    /// The archive has fewer bytes than the head promises.
-    Short,
 }
 
-impl Output<'_> {
-    /// How many bytes its head promises.
-    fn length(&self) -> u64
-        ensures { result ≡ promised self.now.stretch.now }
-    {
-        self.stretch.end.saturating_sub(self.stretch.first)
-    }
+/// How many bytes the head of an output promises.
+fn length_of(stretch: &Stretch) -> u64
+    ensures { result ≡ promised stretch.now }
+{
+    stretch.end.saturating_sub(stretch.first)
 }
 
 /// Prints the head of an output into a buffer, and answers how many bytes it has.
-#[tactic(auto, unfolding(crate::specs::Outputs::head_of_output))]
-fn print_head(output: &Output<'_>, reply: &Reply, stamp: &Stamp, into: &mut [u8]) -> usize
+#[tactic(auto, unfolding(crate::specs::Texts::head_of_output))]
+fn print_head(output: &Output, reply: &Reply, stamp: &Stamp, into: &mut [u8]) -> usize
     requires { IsPrintableIn (length into.old) reply.now }
     ensures head { take result into.new
-        ≡ head_of_output output.now.stretch.now reply.now stamp.now.date stamp.now.close }
+        ≡ head_of_output output.now.stretch reply.now stamp.now.date stamp.now.close }
     ensures within { result ≤ length into.old }
 {
-    write_head(reply, output.length(), stamp.date, stamp.close, into)
+    write_head(
+        reply,
+        length_of(&output.stretch),
+        stamp.date,
+        stamp.close,
+        into,
+    )
 }
 
 /// Reads bytes of an output from a place on, as many as there is room for, and sends them. It
@@ -55,25 +50,25 @@ fn print_head(output: &Output<'_>, reply: &Reply, stamp: &Stamp, into: &mut [u8]
 fn send_piece<S: Station>(
     station: &mut S,
     store: &Store,
-    output: &Output<'_>,
+    output: &Output,
     at: u64,
     piece: &mut [u8],
 ) -> Result<usize, OutputFault>
-    requires { IsReady (S.told station.old) }
+    requires ready { IsReady (S.told station.old) }
+    requires there { IsThere store.now.accounts output.now }
+    requires some { 0 < length piece.old }
+    requires behind { at < promised output.now.stretch }
     ensures sends { IsTrue S.tells → (state : State) →
         IsHeldIn (S.told station.old) store.now state →
         SendsPiece (S.told station.old) (S.told station.new) (take (length piece.old)
-        (drop at (stretch_bytes state output.now.account.now output.now.stretch.now))) result }
+        (drop at (stretch_bytes state output.now.account output.now.stretch))) result }
     ensures some { IfOk result (λ n. 0 < n) }
     ensures within { IfOk result (λ n. n ≤ length piece.old) }
     ensures only { OnlySends (S.told station.old) (S.told station.new) (failing_by result) }
     ensures fault { ShowsFault result (S.told station.old) (S.told station.new) }
 {
-    match store.read_output(station, output.account, output.stretch, at, piece) {
+    match store.read_output(station, &output.account, &output.stretch, at, piece) {
         Ok(count) => {
-            if count == 0 {
-                return Err(OutputFault::Short);
-            }
             match station.send(&piece[..count]) {
                 Ok(()) => Ok(count),
                 Err(_) => Err(OutputFault::Send),
@@ -87,20 +82,21 @@ fn send_piece<S: Station>(
 fn send_pieces<S: Station>(
     station: &mut S,
     store: &Store,
-    output: &Output<'_>,
+    output: &Output,
     buffer: &mut [u8],
 ) -> Result<(), OutputFault>
     requires ready { IsReady (S.told station.old) }
+    requires there { IsThere store.now.accounts output.now }
     requires room { 0 < length buffer.old }
     ensures sends { IsTrue S.tells → (state : State) →
         IsHeldIn (S.told station.old) store.now state →
         SendsOutput (S.told station.old) (S.told station.new) []
-        (stretch_bytes state output.now.account.now output.now.stretch.now)
-        (promised output.now.stretch.now) result }
+        (stretch_bytes state output.now.account output.now.stretch)
+        (promised output.now.stretch) result }
     ensures only { OnlySends (S.told station.old) (S.told station.new) (failing_by result) }
     ensures fault { ShowsFault result (S.told station.old) (S.told station.new) }
 {
-    let length = output.length();
+    let length = length_of(&output.stretch);
     let mut sent = 0;
     while sent < length {
         let most = (buffer.len() as u64).min(length - sent) as usize;
@@ -115,24 +111,23 @@ fn send_pieces<S: Station>(
 /// Sends an output: the head of its reply, and behind it the bytes of the stretch, in pieces of as
 /// many bytes as the buffer has. It takes no memory.
 ///
-/// An error says why the text wasn't sent whole. Of a stretch that answers for the output of a job
-/// there are as many bytes as its head promises.
+/// An error says why the text wasn't sent whole.
 pub fn send_output<S: Station>(
     station: &mut S,
     store: &Store,
-    output: &Output<'_>,
+    output: &Output,
     reply: &Reply,
     stamp: &Stamp,
     buffer: &mut [u8],
 ) -> Result<(), OutputFault>
     requires ready { IsReady (S.told station.old) }
+    requires there { IsThere store.now.accounts output.now }
     requires printable { IsPrintableIn (length buffer.old) reply.now }
     ensures sends { IsTrue S.tells → (state : State) →
         IsHeldIn (S.told station.old) store.now state →
         SendsOutput (S.told station.old) (S.told station.new)
-        (head_of_output output.now.stretch.now reply.now stamp.now.date stamp.now.close)
-        (text_of_output state output.now.account.now output.now.stretch.now reply.now
-        stamp.now.date stamp.now.close) (promised output.now.stretch.now) result }
+        (head_of_output output.now.stretch reply.now stamp.now.date stamp.now.close)
+        (text_of_output state output.now reply.now stamp.now.date stamp.now.close) (promised output.now.stretch) result }
     ensures only { OnlySends (S.told station.old) (S.told station.new) (failing_by result) }
     ensures fault { ShowsFault result (S.told station.old) (S.told station.new) }
 {

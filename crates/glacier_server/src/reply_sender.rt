@@ -1,7 +1,8 @@
 // Sending a reply.
 ghost use Rattle.std.specs.Prelude.{◌≡◌, ◌++◌, ◌≤◌, [], IsTrue, length, take, true, IfSome, OnOk, OnErr, None, if◌then◌else◌};
 ghost use Rattle.glacier_http.specs.Interim.{interim_text};
-ghost use Rattle.glacier_server.specs.Machine.{IsPrintableIn, text_of_reply};
+ghost use Rattle.glacier_server.specs.Machine.{IsPrintableIn};
+ghost use Rattle.glacier_server.specs.Texts.{text_of_reply};
 ghost use Rattle.glacier_server.specs.Transfer.{SentAll, SentPart, Keeps, sending_if};
 
 use glacier_base::{Failed, Moment};
@@ -48,7 +49,7 @@ fn put_behind(buffer: &mut [u8], at: usize, text: &[u8]) -> Option<usize>
 
 /// Prints a reply's head into a buffer, and its body behind it where there is room. It takes no
 /// memory.
-#[tactic(auto, unfolding(crate::specs::Machine::text_of_reply))]
+#[tactic(auto, unfolding(crate::specs::Texts::text_of_reply))]
 fn print(reply: &Reply, stamp: &Stamp, into: &mut [u8]) -> Printed
     requires { IsPrintableIn (length into.old) reply.now }
     ensures within { result.end ≤ length into.old }

@@ -27,12 +27,12 @@ impl<R: Threads + Sync> Service<'_, R> {
         requires connected { (S.told station.old).connected ≡ true }
         requires open { (S.told station.old).opened ≡ true }
         ensures served { IsTrue S.tells → (old : S) (state : State) →
-            store.accounts ≡ state.accounts →
+            Kept (S.told station.old) store state →
             JustAccepted (S.told old) (S.told station.old) (placed_as store state) →
             IfOk result (λ left. (after : State) × Serves self.now.config.now
             (S.told old) (S.told station.new) (placed_as store state) (placed_as left after) 1) }
         ensures broken { IsTrue S.tells → (old : S) (state : State) →
-            store.accounts ≡ state.accounts →
+            Kept (S.told station.old) store state →
             JustAccepted (S.told old) (S.told station.old) (placed_as store state) →
             IfErr result (λ fault. Breaks self.now.config.now
             (S.told old) (S.told station.new) (placed_as store state) 1 fault) }
@@ -63,11 +63,11 @@ impl<R: Threads + Sync> Service<'_, R> {
         requires listening { (S.told station.old).listener.listening ≡ true }
         requires free { (S.told station.old).connected ≡ false }
         requires open { (S.told station.old).opened ≡ true }
-        ensures served { IsTrue S.tells → (state : State) → store.accounts ≡ state.accounts →
+        ensures served { IsTrue S.tells → (state : State) → Kept (S.told station.old) store state →
             IfOk result (λ r. (after : State) × Serves self.now.config.now
             (S.told station.old) (S.told station.new) (placed_as store state)
             (placed_as r.1 after) (if r.0 then 1 else 0)) }
-        ensures broken { IsTrue S.tells → (state : State) → store.accounts ≡ state.accounts →
+        ensures broken { IsTrue S.tells → (state : State) → Kept (S.told station.old) store state →
             IfErr result (λ fault. Breaks self.now.config.now
             (S.told station.old) (S.told station.new) (placed_as store state) 1 fault) }
         ensures came { IsTrue S.tells → CameBy result (λ r. if r.0 then 1 else 0) 1

@@ -18,7 +18,7 @@ ghost use Rattle.glacier_server.specs.Machine.{IsPrintableIn};
 ghost use Rattle.glacier_server.specs.Streams.{IsPieceFor};
 ghost use Rattle.glacier_server.specs.Transfer.{Keeps};
 ghost use Rattle.glacier_server.specs.UploadCalls.{EndsUpload, HasOpened};
-ghost use Rattle.glacier_server.specs.Uploads.{BreaksUpload, HasEndedBody, IsPrintableEnd, events_with, failing_at, reply_with, upload_of};
+ghost use Rattle.glacier_server.specs.Uploads.{BreaksUpload, HasEndedBody, IsPrintableEnd, IsWithinEnd, events_with, failing_at, reply_with, upload_of};
 
 use crate::end::ServeFault;
 use crate::outcome::fault_of;
@@ -145,6 +145,7 @@ pub fn take_upload<S: Station, R: Threads + Sync>(
         (upload_of store rules.now m ask.now here.now missing) (length piece.old)
         (S.told station.old) (S.told station.new)) }
     ensures printable { IfOk result (IsPrintableEnd MOST_HEAD_TEXT) }
+    ensures within { IfOk result (IsWithinEnd missing) }
     ensures fault { ShowsDisk result (S.told station.old) (S.told station.new) }
     ensures keeps { Keeps (S.told station.old) (S.told station.new) (failing_at result) }
 {

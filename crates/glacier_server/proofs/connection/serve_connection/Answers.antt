@@ -10,14 +10,14 @@ returns-in-Err-clause-headline g c t state kept = part_headline (g.met.S.Disk.la
 
 pub returns-in-Ok-serve_open-clause-headline : goal.returns-in-Ok-serve_open-clause-headline
 returns-in-Ok-serve_open-clause-headline g c t state kept =
-    served_headline (g.met.S.Disk.lawful t c.args.station.now) kept (c.in-Ok-serve_open.ensures.served t state kept.accounts).1
+    served_headline (g.met.S.Disk.lawful t c.args.station.now) kept (c.in-Ok-serve_open.ensures.served t state kept).1
 
 pub returns-clause-headline : goal.returns-clause-headline
 returns-clause-headline g c t state kept =
-    part_headline (g.met.S.Disk.lawful t c.args.station.now) kept (c.in-Err-serve_open.ensures.broken t state kept.accounts)
+    part_headline (g.met.S.Disk.lawful t c.args.station.now) kept (c.in-Err-serve_open.ensures.broken t state kept)
 
 pub returns-in-Ok-serve_open-clause-served : goal.returns-in-Ok-serve_open-clause-served
-returns-in-Ok-serve_open-clause-served g c t state kept = c.in-Ok-serve_open.ensures.served t state kept.accounts
+returns-in-Ok-serve_open-clause-served g c t state kept = c.in-Ok-serve_open.ensures.served t state kept
 
 pub returns-clause-broken : goal.returns-clause-broken
-returns-clause-broken g c t state kept = c.in-Err-serve_open.ensures.broken t state kept.accounts
+returns-clause-broken g c t state kept = c.in-Err-serve_open.ensures.broken t state kept

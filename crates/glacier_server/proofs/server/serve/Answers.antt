@@ -13,7 +13,7 @@ returns-in-Err-clause-broken g c t = inr (refl, refl, refl)
 pub connections-init : goal.connections-init
 connections-init g c = record {
   most = omega arith;
-  served = λ t state same. (state, serves_nothing _ (placed_as c.args.store state));
+  served = λ t state kept. (state, serves_nothing _ (placed_as c.args.store state));
   came = λ t. omega arith;
   kept = on_self _ c.requires.free c.requires.«open» c.requires.listening;
   faults = (refl, refl);
@@ -22,9 +22,9 @@ connections-init g c = record {
 pub connections-preserved : goal.connections-preserved
 connections-preserved g c = record {
   most = omega (arith, c.connections-test.true);
-  served = λ t state same.
-      let before = c.connections.invariant.served t state same in
-      let next = c.in-Ok-true-default.ensures.served t before.0 (before.1.does.agrees same) in
+  served = λ t state kept.
+      let before = c.connections.invariant.served t state kept in
+      let next = c.in-Ok-true-default.ensures.served t before.0 (before.1.does.kept kept) in
       (next.0, serves_then before.1 (rw c.in-Ok-true-default.field-0-0-test at next.1));
   came = λ t. one_more_came _ _ (c.connections.invariant.came t)
       (rw c.in-Ok-true-default.field-0-0-test at c.in-Ok-true-default.ensures.came t);
@@ -37,8 +37,8 @@ connections-preserved g c = record {
 
 pub returns-in-Ok-false-default-clause-served : goal.returns-in-Ok-false-default-clause-served
 returns-in-Ok-false-default-clause-served g c t state kept =
-    let before = c.connections.invariant.served t state kept.accounts in
-    let next = c.in-Ok-false-default.ensures.served t before.0 (before.1.does.agrees kept.accounts) in (
+    let before = c.connections.invariant.served t state kept in
+    let next = c.in-Ok-false-default.ensures.served t before.0 (before.1.does.kept kept) in (
       next.0,
       subst (λ (n : ℕ). Serves c.args.config.now (g.S.Disk.told c.args.station.now) (g.S.Disk.told c.serve_next.new.station)
           (placed_as c.args.store state) (placed_as c.in-Ok-false-default.after next.0) n) (omega arith)
@@ -47,12 +47,12 @@ returns-in-Ok-false-default-clause-served g c t state kept =
 
 pub returns-in-Err-serve_next-clause-broken : goal.returns-in-Err-serve_next-clause-broken
 returns-in-Err-serve_next-clause-broken g c t = inl (λ state kept.
-    let before = c.connections.invariant.served t state kept.accounts in
+    let before = c.connections.invariant.served t state kept in
     breaks_then (omega (arith, c.connections-test.true)) before.1
-    (c.in-Err-serve_next.ensures.broken t before.0 (before.1.does.agrees kept.accounts)))
+    (c.in-Err-serve_next.ensures.broken t before.0 (before.1.does.kept kept)))
 
 pub returns-clause-served : goal.returns-clause-served
-returns-clause-served g c t state kept = c.connections.invariant.served t state kept.accounts
+returns-clause-served g c t state kept = c.connections.invariant.served t state kept
 
 pub returns-in-Err-clause-came : goal.returns-in-Err-clause-came
 returns-in-Err-clause-came g c t = omega arith
@@ -79,21 +79,21 @@ returns-in-Err-clause-headline g c t state kept =
 
 pub returns-in-Ok-false-default-clause-headline : goal.returns-in-Ok-false-default-clause-headline
 returns-in-Ok-false-default-clause-headline g c t state kept =
-    let before = c.connections.invariant.served t state kept.accounts in
-    let next = c.in-Ok-false-default.ensures.served t before.0 (before.1.does.agrees kept.accounts) in
+    let before = c.connections.invariant.served t state kept in
+    let next = c.in-Ok-false-default.ensures.served t before.0 (before.1.does.kept kept) in
     serves_headline (g.met.S.Disk.lawful t c.args.station.now) kept
     (serves_then before.1 (rw c.in-Ok-false-default.field-0-0-test at next.1))
 
 pub returns-in-Err-serve_next-clause-headline : goal.returns-in-Err-serve_next-clause-headline
 returns-in-Err-serve_next-clause-headline g c t state kept =
-    let before = c.connections.invariant.served t state kept.accounts in
+    let before = c.connections.invariant.served t state kept in
     breaks_headline (g.met.S.Disk.lawful t c.args.station.now) kept {most = c.args.connections}
     (breaks_then (omega (arith, c.connections-test.true)) before.1
-    (c.in-Err-serve_next.ensures.broken t before.0 (before.1.does.agrees kept.accounts)))
+    (c.in-Err-serve_next.ensures.broken t before.0 (before.1.does.kept kept)))
 
 pub returns-clause-headline : goal.returns-clause-headline
 returns-clause-headline g c t state kept =
-    serves_headline (g.met.S.Disk.lawful t c.args.station.now) kept (c.connections.invariant.served t state kept.accounts).1
+    serves_headline (g.met.S.Disk.lawful t c.args.station.now) kept (c.connections.invariant.served t state kept).1
 
 pub returns-in-Ok-false-default-clause-fault : goal.returns-in-Ok-false-default-clause-fault
 returns-in-Ok-false-default-clause-fault g c = (

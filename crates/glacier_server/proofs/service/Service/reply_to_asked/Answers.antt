@@ -1,4 +1,4 @@
-use Rattle.std.proofs.Common.{Ok, sym, subst}
+use Rattle.std.proofs.Common.{[], Ok, sym, subst}
 use Rattle.std.specs.Prelude.{Result}
 use Rattle.glacier_machine.specs.declared.action.Action.{Action}
 use Rattle.glacier_vault.specs.declared.refusal.Refusal.{Refusal}
@@ -10,9 +10,9 @@ use Rattle.glacier_server.proofs.service.Service.reply_to_asked.Goals as goal
 pub returns-in-Ok-reply_to_refused-clause-keeps : goal.returns-in-Ok-reply_to_refused-clause-keeps
 returns-in-Ok-reply_to_refused-clause-keeps g c t =
     subst (λ (a : Result Action Refusal). KeepsOutcome (g.D.Disk.told c.args.disk.now) (g.D.Disk.told c.args.disk.now) c.args.store
-    (asked_outcome c.args.rules.now c.args.m a c.args.store.accounts)
-    (Ok (c.in-Ok-reply_to_refused.reply, c.args.store))) (sym c.in-Err.is)
-    (no_events (g.met.D.Disk.lawful t c.args.disk.now) c.args.store c.in-Ok-reply_to_refused.reply)
+    (asked_outcome c.args.rules.now c.args.m a [] c.args.store.accounts)
+    (Ok (c.only_reply.result, c.args.store))) (sym c.in-Err.is)
+    (no_events (g.met.D.Disk.lawful t c.args.disk.now) c.args.store c.only_reply.result)
 
 pub returns-in-Err-reply_to_refused-clause-keeps : goal.returns-in-Err-reply_to_refused-clause-keeps
 returns-in-Err-reply_to_refused-clause-keeps g c t = no_memory (g.met.D.Disk.lawful t c.args.disk.now) c.args.store _ _

@@ -11,8 +11,8 @@ pub returns-in-Ok-reply_to_refused-clause-keeps : goal.returns-in-Ok-reply_to_re
 returns-in-Ok-reply_to_refused-clause-keeps g c t =
     subst (λ (q : Result Request Refusal). KeepsOutcome (g.D.Disk.told c.args.disk.now) (g.D.Disk.told c.args.disk.now) c.args.store
     (request_outcome c.args.self.now.config.now c.args.store.accounts q [] c.args.reading)
-    (Ok (c.in-Ok-reply_to_refused.reply, c.args.store))) (sym c.in-Err.is)
-    (no_events (g.met.D.Disk.lawful t c.args.disk.now) c.args.store c.in-Ok-reply_to_refused.reply)
+    (Ok (c.only_reply.result, c.args.store))) (sym c.in-Err.is)
+    (no_events (g.met.D.Disk.lawful t c.args.disk.now) c.args.store c.only_reply.result)
 
 pub returns-in-Err-reply_to_refused-clause-keeps : goal.returns-in-Err-reply_to_refused-clause-keeps
 returns-in-Err-reply_to_refused-clause-keeps g c t = no_memory (g.met.D.Disk.lawful t c.args.disk.now) c.args.store _ _
