@@ -65,6 +65,13 @@ def reply(status, reason, fields, body="", later=0, close=""):
     return f"HTTP/1.1 {status} {reason}\r\nDate: {date}\r\n{fields}{kind}{close}{length}\r\n{body}"
 
 
+def output(status, reason, fields, body):
+    """The output of a job, 300 s later."""
+    return reply(status, reason, fields + "Content-Type: application/octet-stream\r\n", "", 300).replace(
+        "Content-Length: 0", f"Content-Length: {len(body)}"
+    ) + body
+
+
 def refusal(status, code, message, later=0, close=""):
     reason = {400: "Bad Request", 403: "Forbidden", 404: "Not Found"}[status]
     body = f'{{"code":"{code}","message":"{message}","type":"Client"}}'
@@ -83,6 +90,12 @@ def waits(head):
 PUT = signed("PUT", VAULT)
 PUT_OF_3_BYTES = signed("PUT", VAULT, payload=sha256(b"abc"), length=3)
 PUT_OF_A_WRONG_DIGEST = signed("PUT", VAULT, [(HASH, sha256(b""))], length=3)
+HELLO = [(HASH, sha256(b"hello")), ("x-amz-sha256-tree-hash", sha256(b"hello"))]
+UPLOAD = signed("POST", VAULT + "/archives", HELLO, sha256(b"hello"), length=5)
+ARCHIVE = "a" + "0" * 20
+JOB = "j" + "0" * 19 + "1"
+RETRIEVAL = f'{{"Type":"archive-retrieval","ArchiveId":"{ARCHIVE}","Tier":"Expedited"}}'
+OUTPUT = f"{VAULT}/jobs/{JOB}/output"
 V = "/111122223333/vaults/v"
 NO_VERSION = BASE[:2]
 LONG_HASH = sha256(b"a" * LONG)
@@ -134,6 +147,13 @@ REQUESTS = {
     "GET_OF_TWO_VERSIONS": signed(
         "GET", V, [("x-amz-glacier-version", "2012-06-01 2012-06-01"), (HASH, "x")], "x", base=NO_VERSION
     ),
+    "UPLOAD": UPLOAD,
+    "UPLOAD_THAT_WAITS": waits(UPLOAD),
+    "BEGIN_RETRIEVAL": signed("POST", VAULT + "/jobs", payload=sha256(RETRIEVAL.encode()), length=len(RETRIEVAL))
+    + RETRIEVAL,
+    "GET_OUTPUT": signed("GET", OUTPUT),
+    "GET_PART": signed("GET", OUTPUT).replace("Auth", "Range: bytes=1-3\r\nAuth"),
+    "DELETE_ARCHIVE": signed("DELETE", f"{VAULT}/archives/{ARCHIVE}"),
 }
 REPLIES = {
     "CONTINUE": "HTTP/1.1 100 Continue\r\n\r\n",
@@ -149,6 +169,20 @@ REPLIES = {
         '"VaultName":"examplevault"}',
     ),
     "DELETED": reply(204, "No Content", ""),
+    "DELETED_LATER": reply(204, "No Content", "", later=300),
+    "UPLOADED": reply(
+        201,
+        "Created",
+        f"Location: /111122223333/vaults/examplevault/archives/{ARCHIVE}\r\n"
+        f"x-amz-sha256-tree-hash: {sha256(b'hello')}\r\nx-amz-archive-id: {ARCHIVE}\r\n",
+    ),
+    "RETRIEVING": reply(
+        202, "Accepted", f"Location: /111122223333/vaults/examplevault/jobs/{JOB}\r\nx-amz-job-id: {JOB}\r\n"
+    ),
+    "NOT_READY": refusal(400, PARAMETER, "The job is ready at 20120525T002953Z."),
+    "OUTPUT": output(200, "OK", f"x-amz-sha256-tree-hash: {sha256(b'hello')}\r\n", "hello"),
+    "PART": output(206, "Partial Content", "Content-Range: bytes 1-3/5\r\n", "ell"),
+    "OTHER_BYTES": refusal(400, PARAMETER, f"Content hash is {sha256(b'hallo')}, not {sha256(b'hello')}."),
     "NO_SUCH": refusal(404, "ResourceNotFoundException", "Vault not found: nosuch"),
     "NO_VAULT": refusal(404, "ResourceNotFoundException", "Vault not found: examplevault"),
     "NO_VAULT_AND_CLOSE": refusal(

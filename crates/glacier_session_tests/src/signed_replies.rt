@@ -26,6 +26,48 @@ pub const DESCRIBED: &str = "HTTP/1.1 200 OK\r\n\
 pub const DELETED: &str = "HTTP/1.1 204 No Content\r\n\
     Date: Fri, 25 May 2012 00:24:53 GMT\r\n\r\n";
 
+pub const DELETED_LATER: &str = "HTTP/1.1 204 No Content\r\n\
+    Date: Fri, 25 May 2012 00:29:53 GMT\r\n\r\n";
+
+pub const UPLOADED: &str = "HTTP/1.1 201 Created\r\n\
+    Date: Fri, 25 May 2012 00:24:53 GMT\r\n\
+    Location: /111122223333/vaults/examplevault/archives/a00000000000000000000\r\n\
+    x-amz-sha256-tree-hash: 2cf24dba5fb0a30e26e83b2ac5b9e29e1b161e5c1fa7425e73043362938b9824\r\n\
+    x-amz-archive-id: a00000000000000000000\r\n\
+    Content-Length: 0\r\n\r\n";
+
+pub const RETRIEVING: &str = "HTTP/1.1 202 Accepted\r\n\
+    Date: Fri, 25 May 2012 00:24:53 GMT\r\n\
+    Location: /111122223333/vaults/examplevault/jobs/j00000000000000000001\r\n\
+    x-amz-job-id: j00000000000000000001\r\n\
+    Content-Length: 0\r\n\r\n";
+
+pub const NOT_READY: &str = "HTTP/1.1 400 Bad Request\r\n\
+    Date: Fri, 25 May 2012 00:24:53 GMT\r\n\
+    Content-Type: application/json\r\n\
+    Content-Length: 107\r\n\r\n\
+    {\"code\":\"InvalidParameterValueException\",\"message\":\"The job is ready at 20120525T002953Z.\",\"type\":\"Client\"}";
+
+pub const OUTPUT: &str = "HTTP/1.1 200 OK\r\n\
+    Date: Fri, 25 May 2012 00:29:53 GMT\r\n\
+    x-amz-sha256-tree-hash: 2cf24dba5fb0a30e26e83b2ac5b9e29e1b161e5c1fa7425e73043362938b9824\r\n\
+    Content-Type: application/octet-stream\r\n\
+    Content-Length: 5\r\n\r\n\
+    hello";
+
+pub const PART: &str = "HTTP/1.1 206 Partial Content\r\n\
+    Date: Fri, 25 May 2012 00:29:53 GMT\r\n\
+    Content-Range: bytes 1-3/5\r\n\
+    Content-Type: application/octet-stream\r\n\
+    Content-Length: 3\r\n\r\n\
+    ell";
+
+pub const OTHER_BYTES: &str = "HTTP/1.1 400 Bad Request\r\n\
+    Date: Fri, 25 May 2012 00:24:53 GMT\r\n\
+    Content-Type: application/json\r\n\
+    Content-Length: 221\r\n\r\n\
+    {\"code\":\"InvalidParameterValueException\",\"message\":\"Content hash is d3751d33f9cd5049c4af2b462735457e4d3baf130bcbb87f389e349fbaeb20b9, not 2cf24dba5fb0a30e26e83b2ac5b9e29e1b161e5c1fa7425e73043362938b9824.\",\"type\":\"Client\"}";
+
 pub const NO_SUCH: &str = "HTTP/1.1 404 Not Found\r\n\
     Date: Fri, 25 May 2012 00:24:53 GMT\r\n\
     Content-Type: application/json\r\n\

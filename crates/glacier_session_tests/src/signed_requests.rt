@@ -269,3 +269,52 @@ pub const GET_OF_TWO_VERSIONS: &str = "GET /111122223333/vaults/v HTTP/1.1\r\n\
     x-amz-glacier-version: 2012-06-01\r\n\
     x-amz-glacier-version: 2012-06-01\r\n\
     Authorization: AWS4-HMAC-SHA256 Credential=AKIDEXAMPLE/20120525/us-east-1/glacier/aws4_request, SignedHeaders=host;x-amz-content-sha256;x-amz-date;x-amz-glacier-version, Signature=a2976a67e286edc22b678040991c1cf84337d4fbef2cd5933ff9060e12d3a2f1\r\n\r\n";
+
+pub const UPLOAD: &str = "POST /-/vaults/examplevault/archives HTTP/1.1\r\n\
+    host: 127.0.0.1:8080\r\n\
+    x-amz-content-sha256: 2cf24dba5fb0a30e26e83b2ac5b9e29e1b161e5c1fa7425e73043362938b9824\r\n\
+    x-amz-date: 20120525T002453Z\r\n\
+    x-amz-glacier-version: 2012-06-01\r\n\
+    x-amz-sha256-tree-hash: 2cf24dba5fb0a30e26e83b2ac5b9e29e1b161e5c1fa7425e73043362938b9824\r\n\
+    Authorization: AWS4-HMAC-SHA256 Credential=AKIDEXAMPLE/20120525/us-east-1/glacier/aws4_request, SignedHeaders=host;x-amz-content-sha256;x-amz-date;x-amz-glacier-version;x-amz-sha256-tree-hash, Signature=b0ae8f2dd6984ddf6d612e862f1902d8eaad888e2b7ac75c495e851a34d32964\r\n\
+    Content-Length: 5\r\n\r\n";
+
+pub const UPLOAD_THAT_WAITS: &str = "POST /-/vaults/examplevault/archives HTTP/1.1\r\n\
+    host: 127.0.0.1:8080\r\n\
+    x-amz-content-sha256: 2cf24dba5fb0a30e26e83b2ac5b9e29e1b161e5c1fa7425e73043362938b9824\r\n\
+    x-amz-date: 20120525T002453Z\r\n\
+    x-amz-glacier-version: 2012-06-01\r\n\
+    x-amz-sha256-tree-hash: 2cf24dba5fb0a30e26e83b2ac5b9e29e1b161e5c1fa7425e73043362938b9824\r\n\
+    Expect: 100-continue\r\n\
+    Authorization: AWS4-HMAC-SHA256 Credential=AKIDEXAMPLE/20120525/us-east-1/glacier/aws4_request, SignedHeaders=host;x-amz-content-sha256;x-amz-date;x-amz-glacier-version;x-amz-sha256-tree-hash, Signature=b0ae8f2dd6984ddf6d612e862f1902d8eaad888e2b7ac75c495e851a34d32964\r\n\
+    Content-Length: 5\r\n\r\n";
+
+pub const BEGIN_RETRIEVAL: &str = "POST /-/vaults/examplevault/jobs HTTP/1.1\r\n\
+    host: 127.0.0.1:8080\r\n\
+    x-amz-date: 20120525T002453Z\r\n\
+    x-amz-glacier-version: 2012-06-01\r\n\
+    Authorization: AWS4-HMAC-SHA256 Credential=AKIDEXAMPLE/20120525/us-east-1/glacier/aws4_request, SignedHeaders=host;x-amz-date;x-amz-glacier-version, Signature=b2ea182180f2506a053f86c6dccd6be373bd6a061e2b3ef39d55ea10e528b736\r\n\
+    Content-Length: 83\r\n\r\n\
+    {\"Type\":\"archive-retrieval\",\"ArchiveId\":\"a00000000000000000000\",\"Tier\":\"Expedited\"}";
+
+pub const GET_OUTPUT: &str =
+    "GET /-/vaults/examplevault/jobs/j00000000000000000001/output HTTP/1.1\r\n\
+    host: 127.0.0.1:8080\r\n\
+    x-amz-date: 20120525T002453Z\r\n\
+    x-amz-glacier-version: 2012-06-01\r\n\
+    Authorization: AWS4-HMAC-SHA256 Credential=AKIDEXAMPLE/20120525/us-east-1/glacier/aws4_request, SignedHeaders=host;x-amz-date;x-amz-glacier-version, Signature=9a1d15a1dbcd9867daa9e3c6df3c2a47b5affc8ab7013731da795bf3b0276ddf\r\n\r\n";
+
+pub const GET_PART: &str =
+    "GET /-/vaults/examplevault/jobs/j00000000000000000001/output HTTP/1.1\r\n\
+    host: 127.0.0.1:8080\r\n\
+    x-amz-date: 20120525T002453Z\r\n\
+    x-amz-glacier-version: 2012-06-01\r\n\
+    Range: bytes=1-3\r\n\
+    Authorization: AWS4-HMAC-SHA256 Credential=AKIDEXAMPLE/20120525/us-east-1/glacier/aws4_request, SignedHeaders=host;x-amz-date;x-amz-glacier-version, Signature=9a1d15a1dbcd9867daa9e3c6df3c2a47b5affc8ab7013731da795bf3b0276ddf\r\n\r\n";
+
+pub const DELETE_ARCHIVE: &str =
+    "DELETE /-/vaults/examplevault/archives/a00000000000000000000 HTTP/1.1\r\n\
+    host: 127.0.0.1:8080\r\n\
+    x-amz-date: 20120525T002453Z\r\n\
+    x-amz-glacier-version: 2012-06-01\r\n\
+    Authorization: AWS4-HMAC-SHA256 Credential=AKIDEXAMPLE/20120525/us-east-1/glacier/aws4_request, SignedHeaders=host;x-amz-date;x-amz-glacier-version, Signature=0e20eb8ef0d7df8d615815f11334acc947441c21ab11ad42c24849d77f51502b\r\n\r\n";

@@ -279,6 +279,66 @@ const WAITING: [Dialogue; 1] = [(
     &[CONTINUE, MADE, CONTINUE, MISMATCH, MADE],
 )];
 
+const UNTIL_READY: &[u64] = &[
+    READING,
+    READING,
+    READING,
+    READING,
+    READING + 300,
+    READING + 300,
+    READING + 300,
+    READING + 300,
+];
+
+/// Archives, and their retrieval.
+const ARCHIVES: [Dialogue; 2] = [
+    (
+        "what was uploaded is retrieved, whole and in part, also once it is deleted",
+        UNTIL_READY,
+        &[
+            PUT,
+            UPLOAD_THAT_WAITS,
+            "hello",
+            BEGIN_RETRIEVAL,
+            GET_OUTPUT,
+            GET_OUTPUT,
+            GET_PART,
+            DELETE_ARCHIVE,
+            GET_OUTPUT,
+        ],
+        &[
+            MADE,
+            CONTINUE,
+            UPLOADED,
+            RETRIEVING,
+            NOT_READY,
+            OUTPUT,
+            PART,
+            DELETED_LATER,
+            OUTPUT,
+        ],
+    ),
+    (
+        "other bytes than are named are no archive",
+        ON_TIME,
+        &[PUT, UPLOAD, "hallo", UPLOAD, "hello"],
+        &[MADE, OTHER_BYTES, UPLOADED],
+    ),
+];
+
+#[test]
+fn archive_dialogues(rt: HostRuntime) {
+    for row in &ARCHIVES {
+        for piece in [1, 7, 65_536] {
+            assert!(rt;
+                is_held(&rt, rt.alloc(), row, piece) == Some(true),
+                "{} by {piece}",
+                row.0
+            );
+        }
+    }
+}
+
 #[test]
 fn waiting_dialogues(rt: HostRuntime) {
     for row in &WAITING {
