@@ -17,15 +17,20 @@ PROGRAM = os.environ.get("GLACIER", f"{ROOT}/crates/glacier_cli/out/glacier_cli"
 BEFORE = os.environ.get("BEFORE", "").split()
 KEYS = ("111122223333", "AKIDEXAMPLE", "wJalrXUtnFEMI/K7MDENG+bPxRfiCYEXAMPLEKEY")
 KEPT = 1000
+EMPTY = hashlib.sha256(b"").hexdigest()
 
 
-def signed(method, path, more=""):
-    """Returns a request, signed by Signature Version 4 at this moment, with further fields that aren't."""
+def signed(method, path, more="", headers=None, payload=EMPTY):
+    """Returns a request's head, signed by Signature Version 4 at this moment, with further fields that aren't.
+
+    The headers are signed too, their names in lower case; payload is the SHA-256 of the body, in digits.
+    """
     moment = time.strftime("%Y%m%dT%H%M%SZ", time.gmtime())
-    fields = {"host": "h", "x-amz-date": moment, "x-amz-glacier-version": "2012-06-01"}
+    fields = {"host": "h", "x-amz-date": moment, "x-amz-glacier-version": "2012-06-01", **(headers or {})}
+    fields = dict(sorted(fields.items()))
     names = ";".join(fields)
     lines = "".join(f"{name}:{value}\n" for name, value in fields.items())
-    canonical = f"{method}\n{path}\n\n{lines}\n{names}\n{hashlib.sha256(b'').hexdigest()}"
+    canonical = f"{method}\n{path}\n\n{lines}\n{names}\n{payload}"
     scope = f"{moment[:8]}/us-east-1/glacier/aws4_request"
     key = ("AWS4" + KEYS[2]).encode()
     for part in scope.split("/"):
@@ -43,15 +48,21 @@ def build():
         subprocess.run([f"{ROOT}/glacier", "hash", "/dev/null"], stdout=subprocess.DEVNULL, check=True)
 
 
-def write_keys(name):
+def write_keys(name, quota=64):
     with open(name, "w", encoding="ascii") as it:
-        it.write(" ".join(KEYS) + " 64\n")
+        it.write(" ".join(KEYS) + f" {quota}\n")
 
 
 def processor_seconds(process):
     """The processor time of a process so far, user and system, which the system counts in nanoseconds."""
     with open(f"/proc/{process}/schedstat", encoding="ascii") as it:
         return int(it.read().split()[0]) / 1e9
+
+
+def most_resident(process):
+    """The most memory that a process has had resident so far, in MiB."""
+    with open(f"/proc/{process}/status", encoding="ascii") as it:
+        return next(int(line.split()[1]) for line in it if line.startswith("VmHWM:")) / 1024
 
 
 def free_port():
@@ -142,12 +153,18 @@ class Replies:
         head, _, rest = self.kept.partition(b"\r\n\r\n")
         lengths = [int(it.split(b":")[1]) for it in head.split(b"\r\n") if it.lower().startswith(b"content-length:")]
         length = lengths[0] if lengths else 0
-        while len(rest) < length:
-            if not self.more():
+        pieces, count = [rest], len(rest)
+        while count < length:
+            try:
+                pieces.append(self.connection.recv(min(1 << 20, length - count)))
+            except ConnectionError:
                 return None
-            _, _, rest = self.kept.partition(b"\r\n\r\n")
-        self.kept = rest[length:]
-        return head, rest[:length]
+            if not pieces[-1]:
+                return None
+            count += len(pieces[-1])
+        body = b"".join(pieces)
+        self.kept = body[length:]
+        return head, body[:length]
 
     def next(self):
         """Returns the status and the body of the next reply, or None as `whole` does."""
